@@ -2,11 +2,11 @@
 use Rattle.std.proofs.Common.{◌≡◌, ℕ, true, false, List, [], ◌∷◌, ◌++◌, map, codes, Some, None, refl}
 use Rattle.std.specs.List.{join_with_byte}
 use Rattle.report_text.specs.Numerals.{numeral}
-use Rattle.world_model.specs.model.Scene.{Program, Station}
+use Rattle.world_model.specs.model.Scene.{Program, ScriptFile}
 use Rattle.world_model.specs.model.events.Checks.{no_action}
 use Rattle.world_model.specs.model.events.EndedInode.{EndedInodeValue}
 use Rattle.world_model.specs.model.events.Inode.{nobody}
-use Rattle.world_model.specs.model.events.Past.{past}
+use Rattle.world_model.specs.model.events.NewestFirst.{newest_first}
 use Rattle.world_model.specs.model.events.declared.deed.Change.TheVariants as change
 use Rattle.world_model.specs.model.events.declared.deed.Deed.{Deed}
 use Rattle.world_model.specs.model.events.declared.deed.Deed.TheVariants as deed
@@ -55,8 +55,8 @@ image = record {
 }
 
 -- a file of this path
-abbrev station : List ℕ → Station
-station path = record {
+abbrev script_file : List ℕ → ScriptFile
+script_file path = record {
   path = path;
   birth = image;
   place = record { magic = 0xef53; uuid = 1; name = codes "ext4"; versions = true };
@@ -129,7 +129,7 @@ inode journal = record {
 abbrev trail : List RuleValue → List (List Event) → List (List ℕ)
 trail rules journals =
     map (join_with_byte 32) (trail_lines (all_lines programs rules settings
-    (station (codes "/a") ∷ station (codes "/b") ∷ []) 0 (map inode journals)))
+    (script_file (codes "/a") ∷ script_file (codes "/b") ∷ []) 0 (map inode journals)))
 
 -- ---- one check
 
@@ -139,20 +139,20 @@ audited : trail (line act.Measure ∷ record (line act.Audit) { func = Some func
     ≡ codes "trail 1"
     ∷ (codes "audit 0.2 0.0.1 line 1 /a " ++ digest_word (digest_of Sha256 abc))
     ∷ codes "end" ∷ []
-unfolding past numeral
+unfolding newest_first numeral
 audited = refl
 
 -- a `dont_` line that matches first asks for nothing, whatever follows
 not_audited : trail (record (line act.DontAudit) { uid = Some (Is 0) } ∷ line act.Audit ∷ [])
     ((born ∷ counted ∷ checked 0 1 func.FileCheck 2 ∷ []) ∷ []) ≡ codes "trail 0" ∷ codes "end" ∷ []
-unfolding past numeral
+unfolding newest_first numeral
 not_audited = refl
 
 -- the family `hash` shows the label
 hashed : trail (line act.Hash ∷ []) ((born ∷ counted ∷ checked 0 1 func.FileCheck 1 ∷ []) ∷ [])
     ≡ codes "trail 1" ∷ (codes "hash 0.2 0.0.1 line 0 /a " ++ label_word (digest_of Sha256 abc))
     ∷ codes "end" ∷ []
-unfolding past numeral
+unfolding newest_first numeral
 hashed = refl
 
 -- both families, `audit` first; the others' lines make no records
@@ -162,7 +162,7 @@ both : trail (line act.Hash ∷ line act.Appraise ∷ line act.Audit ∷ [])
     ∷ (codes "audit 0.2 0.0.1 line 2 /a " ++ digest_word (digest_of Sha256 abc))
     ∷ (codes "hash 0.2 0.0.1 line 0 /a " ++ label_word (digest_of Sha256 abc))
     ∷ codes "end" ∷ []
-unfolding past numeral
+unfolding newest_first numeral
 both = refl
 
 -- the mask is that of the step's call: `mask=MAY_READ` for the first, both bits for the second,
@@ -178,7 +178,7 @@ by_mask : trail
     ∷ (codes "audit 0.2 0.1.1 line 1 /a " ++ digest_word (digest_of Sha256 abc))
     ∷ (codes "hash 0.3 0.2.0 line 2 /a " ++ label_word (digest_of Sha256 abc))
     ∷ codes "end" ∷ []
-unfolding past numeral
+unfolding newest_first numeral
 by_mask = refl
 
 -- a step of a task or of a call that the script doesn't have makes no record
@@ -189,7 +189,7 @@ unasked : trail (line act.Audit ∷ [])
       deed = deed.Check 1 func.FileCheck no_action 1;
       told = told.Quiet;
     } ∷ []) ∷ []) ≡ codes "trail 0" ∷ codes "end" ∷ []
-unfolding past numeral
+unfolding newest_first numeral
 unasked = refl
 
 -- ---- what changes between two checks
@@ -202,7 +202,7 @@ rewritten : trail (line act.Audit ∷ [])
     ∷ (codes "audit 0.1 0.0.1 line 0 /a " ++ digest_word (digest_of Sha256 abc))
     ∷ (codes "audit 0.3 0.0.1 line 0 /a " ++ digest_word (digest_of Sha256 (codes "axc")))
     ∷ codes "end" ∷ []
-unfolding past numeral
+unfolding newest_first numeral
 rewritten = refl
 
 -- the rules: the first check names one, the second two
@@ -211,7 +211,7 @@ more_rules : trail (record (line act.Audit) { func = Some func.BprmCheck } ∷ l
     ≡ codes "trail 1"
     ∷ (codes "audit 0.2 0.0.1 line 1 /a " ++ digest_word (digest_of Sha256 abc))
     ∷ codes "end" ∷ []
-unfolding past numeral
+unfolding newest_first numeral
 more_rules = refl
 
 -- the owner: `fowner=7` matches after it was changed
@@ -221,7 +221,7 @@ other_owner : trail (record (line act.Audit) { fowner = Some (Is 7) } ∷ [])
     ≡ codes "trail 1"
     ∷ (codes "audit 0.3 0.0.1 line 0 /a " ++ digest_word (digest_of Sha256 abc))
     ∷ codes "end" ∷ []
-unfolding past numeral
+unfolding newest_first numeral
 other_owner = refl
 
 -- the label: it names the algorithm of the second digest
@@ -233,7 +233,7 @@ other_label : trail (line act.Hash ∷ [])
     ∷ (codes "hash 0.1 0.0.1 line 0 /a " ++ label_word (digest_of Sha256 abc))
     ∷ (codes "hash 0.3 0.0.1 line 0 /a " ++ label_word (digest_of Md5 abc))
     ∷ codes "end" ∷ []
-unfolding past numeral
+unfolding newest_first numeral
 other_label = refl
 
 -- a close: the label that it writes names the script's algorithm
@@ -246,7 +246,7 @@ closed : trail (line act.Audit ∷ [])
     ∷ (codes "audit 0.2 0.0.1 line 0 /a " ++ digest_word (digest_of Sha384 abc))
     ∷ (codes "audit 0.6 0.0.1 line 0 /a " ++ digest_word (digest_of Sha256 abc))
     ∷ codes "end" ∷ []
-unfolding past numeral
+unfolding newest_first numeral
 closed = refl
 
 -- ---- several inodes
@@ -257,5 +257,5 @@ two_inodes : trail (line act.Audit ∷ [])
     ≡ codes "trail 1"
     ∷ (codes "audit 1.2 0.0.1 line 0 /b " ++ digest_word (digest_of Sha256 abc))
     ∷ codes "end" ∷ []
-unfolding past numeral
+unfolding newest_first numeral
 two_inodes = refl

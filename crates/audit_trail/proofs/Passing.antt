@@ -3,11 +3,11 @@ use Rattle.std.proofs.Common.{◌≡◌, ℕ, ◌+◌, ◌<◌, ◌≤◌, List,
 use Rattle.std.specs.Prelude.{slice_get}
 use Rattle.std.proofs.lemmas.List.{get_or_read}
 use Rattle.report_text.specs.Words.{Line}
-use Rattle.script_scene.specs.Scene.{station_of}
-use Rattle.world_model.specs.model.Scene.{Station, no_super}
+use Rattle.script_scene.specs.Scene.{script_file_of}
+use Rattle.world_model.specs.model.Scene.{ScriptFile, no_super}
 use Rattle.world_model.specs.model.events.EndedInode.{EndedInodeValue}
 use Rattle.world_model.specs.model.events.Integrity.{label_in}
-use Rattle.world_model.specs.model.events.Past.{past}
+use Rattle.world_model.specs.model.events.NewestFirst.{newest_first}
 use Rattle.world_model.specs.model.events.State.{metadata}
 use Rattle.world_model.specs.model.events.Verdicts.{fresh_digest}
 use Rattle.world_model.specs.model.events.declared.deed.Deed.{Deed}
@@ -23,7 +23,7 @@ use Rattle.world_model.specs.model.policy.declared.access.Super.{Super}
 use Rattle.world_model.specs.model.policy.declared.rule.Func.{Func}
 use Rattle.audit_trail.proofs.Placed.{mapped_there}
 use Rattle.audit_trail.proofs.Standing.{past_count, past_next}
-use Rattle.audit_trail.specs.Sites.{event_lines, inode_at, numbered_lines, programs_in, site_lines, station_at, stations_in}
+use Rattle.audit_trail.specs.Sites.{event_lines, inode_at, numbered_lines, programs_in, script_file_at, script_files_in, site_lines}
 use Rattle.audit_trail.specs.Trail.{inode_lines, journal_lines, step_lines}
 use Rattle.audit_trail.specs.Walk.{IsWalk, digest_at}
 use Rattle.audit_trail.specs.declared.site.Context.{Context}
@@ -38,46 +38,47 @@ fresh_there i p w h =
 
 -- the records of the journal with the next event
 pub journal_next : (c : Context) (s : Site) (j : List Event) (i : ℕ) (e : Event) (w : Walk)
-    → IsWalk (inode_at c s) (past (take i j)) w → i < length j → e ≡ get_or j i e
-    → site_lines c s (past (take (i + 1) j))
-    ≡ site_lines c s (past (take i j)) ++ event_lines c s i w e
+    → IsWalk (inode_at c s) (newest_first (take i j)) w → i < length j → e ≡ get_or j i e
+    → site_lines c s (newest_first (take (i + 1) j))
+    ≡ site_lines c s (newest_first (take i j)) ++ event_lines c s i w e
 journal_next c s j i e w h l is =
     let within : i ≤ length j = omega arith in
-    let place : i ≡ length (past (take i j)) = sym (past_count j i within) in
+    let place : i ≡ length (newest_first (take i j)) = sym (past_count j i within) in
     let fresh : digest_at c.settings.now.hash w
-    ≡ fresh_digest (inode_at c s) (past (take i j)) =
-    fresh_there (inode_at c s) (past (take i j)) w h in
+    ≡ fresh_digest (inode_at c s) (newest_first (take i j)) =
+    fresh_there (inode_at c s) (newest_first (take i j)) w h in
     let seen : event_lines c s i w e ≡ step_lines (programs_in c) c.rules.now s.number
-    (station_at s) (metadata (past (take i j))) (fresh_digest (inode_at c s) (past (take i j)))
-    (length (past (take i j))) e.who e.deed =
-    λ k. step_lines (programs_in c) c.rules.now s.number (station_at s) (h.metadata k) (fresh k)
+    (script_file_at s) (metadata (newest_first (take i j)))
+    (fresh_digest (inode_at c s) (newest_first (take i j)))
+    (length (newest_first (take i j))) e.who e.deed =
+    λ k. step_lines (programs_in c) c.rules.now s.number (script_file_at s) (h.metadata k) (fresh k)
     (place k) e.who e.deed in
     ap (site_lines c s) (past_next j i e l is)
-    ∙ ap (λ (l : List Line). site_lines c s (past (take i j)) ++ l) (sym seen)
+    ∙ ap (λ (l : List Line). site_lines c s (newest_first (take i j)) ++ l) (sym seen)
 
--- a file and its file system, as they were read, are a station of the script
+-- a file and its file system, as they were read, are a file of the script
 pub site_there : (c : Context) (s : Site) (i : ℕ) → i < length c.files.now
     → s.file.now ≡ get_or c.files.now i s.file.now → s.file.now.fs < length c.supers.now
     → s.system.now ≡ get_or c.supers.now s.file.now.fs s.system.now
-    → slice_get (stations_in c) i ≡ Some (station_at s)
+    → slice_get (script_files_in c) i ≡ Some (script_file_at s)
 site_there c s i l is below on =
     let place : get_or c.supers.now s.file.now.fs no_super ≡ s.system.now =
     sym (get_or_read c.supers.now s.file.now.fs s.system.now below on no_super) in
-    let made : Super → Option Station = λ p. Some (record {
+    let made : Super → Option ScriptFile = λ p. Some (record {
       path = s.file.now.path;
       birth = s.file.now.image;
       place = p;
     }) in
-    mapped_there (station_of c.supers.now) c.files.now i s.file.now l is ∙ ap made place
+    mapped_there (script_file_of c.supers.now) c.files.now i s.file.now l is ∙ ap made place
 
 -- the records of the journal of a site are those of the inode of its number
 pub numbered : (c : Context) (s : Site) (i : ℕ) (inode : EndedInodeValue) (j : List Event)
-    → s.number ≡ i → slice_get (stations_in c) i ≡ Some (station_at s) → j ≡ inode.journal
-    → site_lines c s (past j) ≡ numbered_lines c i inode
+    → s.number ≡ i → slice_get (script_files_in c) i ≡ Some (script_file_at s) → j ≡ inode.journal
+    → site_lines c s (newest_first j) ≡ numbered_lines c i inode
 numbered c s i inode j is there same =
-    (λ k. journal_lines (programs_in c) c.rules.now c.settings.now (is k) (station_at s)
-    (past (same k)))
-    ∙ sym (ap (λ (o : Option Station). inode_lines (programs_in c) c.rules.now c.settings.now i o
+    (λ k. journal_lines (programs_in c) c.rules.now c.settings.now (is k) (script_file_at s)
+    (newest_first (same k)))
+    ∙ sym (ap (λ (o : Option ScriptFile). inode_lines (programs_in c) c.rules.now c.settings.now i o
     inode) there)
 
 -- ---- the records of one event

@@ -9,12 +9,12 @@ use Rattle.report_text.specs.Numerals.{numeral}
 use Rattle.report_text.specs.Report.{force_word}
 use Rattle.report_text.specs.Words.{Line, who_word}
 use Rattle.world_model.specs.model.EndedValue.{EndedValue, ended_of}
-use Rattle.world_model.specs.model.Scene.{Program, Scene, Station, rules_with}
+use Rattle.world_model.specs.model.Scene.{Program, Scene, ScriptFile, rules_with}
 use Rattle.world_model.specs.model.Served.{Run}
 use Rattle.world_model.specs.model.Shown.{IsShown}
 use Rattle.world_model.specs.model.events.EndedInode.{EndedInodeValue}
 use Rattle.world_model.specs.model.events.Inode.{Inode}
-use Rattle.world_model.specs.model.events.Past.{past}
+use Rattle.world_model.specs.model.events.NewestFirst.{newest_first}
 use Rattle.world_model.specs.model.events.State.{metadata}
 use Rattle.world_model.specs.model.events.Verdicts.{fresh_digest}
 use Rattle.world_model.specs.model.events.declared.deed.Deed.{Deed}
@@ -70,7 +70,7 @@ lines_of i k who path digest audit hash =
 
 -- the records of a step at place k of the journal of inode i, with this metadata and this digest of
 -- the content there. `rules` are all rules of the run; a check names how many of them decided it.
-abbrev pub step_lines : List Program → List RuleValue → ℕ → Station → Meta → Digest → ℕ → Who
+abbrev pub step_lines : List Program → List RuleValue → ℕ → ScriptFile → Meta → Digest → ℕ → Who
     → Deed → List Line
 step_lines programs rules i s meta digest k who (deed.Check file func action n) =
     lines_of i k who s.path digest
@@ -78,12 +78,12 @@ step_lines programs rules i s meta digest k who (deed.Check file func action n) 
     (line_for Hashing (take n rules) s.place meta func (asker_of programs who))
 step_lines programs rules i s meta digest k who _ = []
 
-abbrev pub inode_with : Settings → Station → Inode
+abbrev pub inode_with : Settings → ScriptFile → Inode
 inode_with settings s = record { path = s.path; settings = settings; birth = s.birth }
 
 -- the records of the journal, read from its newest event back. The digest is that of the content
 -- before the event, by the algorithm that the label there names.
-abbrev pub journal_lines : List Program → List RuleValue → Settings → ℕ → Station → List Event
+abbrev pub journal_lines : List Program → List RuleValue → Settings → ℕ → ScriptFile → List Event
     → List Line
 journal_lines programs rules settings i s [] = []
 journal_lines programs rules settings i s (e ∷ before) =
@@ -93,24 +93,24 @@ journal_lines programs rules settings i s (e ∷ before) =
 
 -- ---- a run
 
-abbrev pub inode_lines : List Program → List RuleValue → Settings → ℕ → Option Station
+abbrev pub inode_lines : List Program → List RuleValue → Settings → ℕ → Option ScriptFile
     → EndedInodeValue → List Line
 inode_lines programs rules settings i None inode = []
 inode_lines programs rules settings i (Some s) inode =
-    journal_lines programs rules settings i s (past inode.journal)
+    journal_lines programs rules settings i s (newest_first inode.journal)
 
 -- the records of the inodes, the first of which has the number i
-abbrev pub all_lines : List Program → List RuleValue → Settings → List Station → ℕ
+abbrev pub all_lines : List Program → List RuleValue → Settings → List ScriptFile → ℕ
     → List EndedInodeValue → List Line
-all_lines programs rules settings stations i [] = []
-all_lines programs rules settings stations i (inode ∷ rest) =
-    inode_lines programs rules settings i (slice_get stations i) inode
-    ++ all_lines programs rules settings stations (i + 1) rest
+all_lines programs rules settings script_files i [] = []
+all_lines programs rules settings script_files i (inode ∷ rest) =
+    inode_lines programs rules settings i (slice_get script_files i) inode
+    ++ all_lines programs rules settings script_files (i + 1) rest
 
 -- the records of a run that ends so
 abbrev pub records_of : Scene → EndedValue → List Line
 records_of scene e =
-    all_lines scene.programs (rules_with scene e.rules) scene.settings scene.stations 0 e.inodes
+    all_lines scene.programs (rules_with scene e.rules) scene.settings scene.script_files 0 e.inodes
 
 -- how many records there are, the records, and `end`
 abbrev pub trail_lines : List Line → List Line

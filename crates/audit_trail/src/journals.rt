@@ -1,11 +1,11 @@
 // The records of journals, in order.
 
 ghost use Rattle.std.specs.Prelude.{◌≡◌, ◌+◌, ◌≤◌, [], ◌++◌, Some, length, slice_get, vec_len, IfOk, OnOk};
-ghost use Rattle.world_model.specs.model.Scene.{Station as AnyStation};
+ghost use Rattle.world_model.specs.model.Scene.{ScriptFile as AnyScriptFile};
 ghost use Rattle.world_model.specs.model.events.Legal.{Legal};
-ghost use Rattle.world_model.specs.model.events.Past.{past};
+ghost use Rattle.world_model.specs.model.events.NewestFirst.{newest_first};
 ghost use Rattle.world_model.specs.model.events.forms.Words.{text_of};
-ghost use Rattle.audit_trail.specs.Sites.{AreLegal, ArePlaced, event_lines, inode_at, lines_from, numbered_lines, site_lines, stations_in};
+ghost use Rattle.audit_trail.specs.Sites.{AreLegal, ArePlaced, event_lines, inode_at, lines_from, numbered_lines, script_files_in, site_lines};
 ghost use Rattle.audit_trail.specs.Trail.{inode_with};
 ghost use Rattle.audit_trail.specs.Walk.{IsCached, IsWalk, StillWalks};
 
@@ -56,11 +56,11 @@ fn push_events(
     journal: &[Event],
 ) -> Result<u64, OutOfMemory>
     requires walk { IsWalk (inode_at context.now site.now) [] walk.old }
-    requires legal { Legal (inode_at context.now site.now) (past journal.now) }
+    requires legal { Legal (inode_at context.now site.now) (newest_first journal.now) }
     ensures text { IfOk result (λ n. out.new.items ≡ out.old.items
-        ++ text_of (site_lines context.now site.now (past journal.now))) }
+        ++ text_of (site_lines context.now site.now (newest_first journal.now))) }
     ensures count { IfOk result (λ n. n
-        ≡ length (site_lines context.now site.now (past journal.now))) }
+        ≡ length (site_lines context.now site.now (newest_first journal.now))) }
     ensures grows { IfOk result (λ n. vec_len out.old + n ≤ vec_len out.new) }
 {
     let mut count = 0;
@@ -80,8 +80,8 @@ fn push_inode(
     inode: &EndedInode,
 ) -> Result<u64, OutOfMemory>
     requires placed { ArePlaced context.now }
-    requires legal { (s : AnyStation) → slice_get (stations_in context.now) number ≡ Some s
-        → Legal (inode_with context.now.settings.now s) (past inode.now.journal) }
+    requires legal { (s : AnyScriptFile) → slice_get (script_files_in context.now) number ≡ Some s
+        → Legal (inode_with context.now.settings.now s) (newest_first inode.now.journal) }
     ensures text { IfOk result (λ n. out.new.items ≡ out.old.items
         ++ text_of (numbered_lines context.now number inode.now)) }
     ensures count { IfOk result (λ n. n ≡ length (numbered_lines context.now number inode.now)) }

@@ -6,7 +6,7 @@ ghost use Rattle.grow_list.specs.Meetings.{IsListSeat, IsPassSeat, IsMoved};
 ghost use Rattle.grow_list.specs.Views.{listed};
 ghost use Rattle.grow_list.specs.Shown.{IsSameList, HasItsOwn, HasEach, Accounts, fresh, IsPassAt};
 
-use crate::meeting::{Board, Place, end, enter, meet, part, take_number};
+use crate::meeting::{Board, Place, add_through_pass, end, end_pass, pass_sees_list, take_number};
 use crate::views::{Growing, SeatView};
 use atomic_table::Table;
 use std::alloc::{AllocError as OutOfMemory, Global};
@@ -91,7 +91,7 @@ fn take_back<E>(board: &Board<E>, list: &mut Place<E>, passes: Vec<Pass<E>>)
     ensures accounts { All (Accounts (listed list.old.me.0)) passes.items }
 {
     for pass in passes {
-        part(board, list, pass.into_place());
+        end_pass(board, list, pass.into_place());
     }
 }
 
@@ -156,7 +156,7 @@ impl<E> Grow<E> {
     {
         let place = self.entries.len() as u64;
         let table = &self.table;
-        enter(
+        add_through_pass(
             &table.shared,
             &mut self.seat,
             &mut pass.seat,
@@ -184,7 +184,7 @@ impl<E> Grow<E> {
         ensures same_pass { (pass.new.name ≡ pass.old.name) × (pass.new.number ≡ pass.old.number) }
     {
         let table = &self.table;
-        meet(&table.shared, &mut self.seat, &mut pass.seat);
+        pass_sees_list(&table.shared, &mut self.seat, &mut pass.seat);
     }
 
     /// The number of entries.
@@ -242,7 +242,7 @@ impl<E> Grow<E> {
             mut seat,
         } = self;
         end(&table.shared, &mut seat);
-        part(&table.shared, &mut seat, own.into_place());
+        end_pass(&table.shared, &mut seat, own.into_place());
         take_back(&table.shared, &mut seat, passes);
         entries
     }

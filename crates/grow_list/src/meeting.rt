@@ -21,7 +21,7 @@ pub type Board<E> = Shared<(), SeatView<E>, u32, Growing>;
 pub type Place<E> = Seat<(), SeatView<E>>;
 
 // Joins a copy of the pass's seat to the list's.
-fn come<E>(board: &Board<E>, list: &mut Place<E>, pass: &mut Place<E>)
+fn join_pass_to_list<E>(board: &Board<E>, list: &mut Place<E>, pass: &mut Place<E>)
     requires seats { (list.old.table_id ≡ board.now.table_id)
         × (pass.old.table_id ≡ board.now.table_id) }
     requires words { board.now.table_id.words ≡ 2 }
@@ -36,7 +36,7 @@ fn come<E>(board: &Board<E>, list: &mut Place<E>, pass: &mut Place<E>)
 }
 
 // Joins a copy of the list's seat to the pass's.
-fn visit<E>(board: &Board<E>, list: &mut Place<E>, pass: &mut Place<E>)
+fn join_list_to_pass<E>(board: &Board<E>, list: &mut Place<E>, pass: &mut Place<E>)
     requires seats { (list.old.table_id ≡ board.now.table_id)
         × (pass.old.table_id ≡ board.now.table_id) }
     requires words { board.now.table_id.words ≡ 2 }
@@ -51,7 +51,7 @@ fn visit<E>(board: &Board<E>, list: &mut Place<E>, pass: &mut Place<E>)
 }
 
 // The list's seat takes in the view of the pass next to it.
-fn hear<E>(board: &Board<E>, list: &mut Place<E>)
+fn list_learns<E>(board: &Board<E>, list: &mut Place<E>)
     requires seat { (list.old.table_id ≡ board.now.table_id) × (list.old.id ≡ 0) }
     requires words { board.now.table_id.words ≡ 2 }
     requires view { list.old.me.0 ≡ ListBeside (listed list.old.me.0) (held list.old.me.0) }
@@ -63,7 +63,7 @@ fn hear<E>(board: &Board<E>, list: &mut Place<E>)
 }
 
 // The pass's seat takes in the view of the list next to it.
-fn learn<E>(board: &Board<E>, pass: &mut Place<E>)
+fn pass_learns<E>(board: &Board<E>, pass: &mut Place<E>)
     requires seat { (pass.old.table_id ≡ board.now.table_id)
         × (pass.old.id ≡ (held pass.old.me.0).seat) }
     requires words { board.now.table_id.words ≡ 2 }
@@ -103,14 +103,14 @@ fn take_in<E>(board: &Board<E>, list: &mut Place<E>, pass: &mut Place<E>)
     ensures pass { IsMoved pass.old pass.new
         (OfPass (learned (held pass.old.me.0) (listed list.old.me.0))) }
 {
-    visit(board, list, pass);
-    learn(board, pass);
-    come(board, list, pass);
-    hear(board, list);
+    join_list_to_pass(board, list, pass);
+    pass_learns(board, pass);
+    join_pass_to_list(board, list, pass);
+    list_learns(board, list);
 }
 
 /// A meeting in both directions, after which the pass has seen the list.
-pub fn meet<E>(board: &Board<E>, list: &mut Place<E>, pass: &mut Place<E>)
+pub fn pass_sees_list<E>(board: &Board<E>, list: &mut Place<E>, pass: &mut Place<E>)
     requires seats { (list.old.table_id ≡ board.now.table_id)
         × (pass.old.table_id ≡ board.now.table_id) }
     requires words { board.now.table_id.words ≡ 2 }
@@ -121,15 +121,15 @@ pub fn meet<E>(board: &Board<E>, list: &mut Place<E>, pass: &mut Place<E>)
         (OfPass (caught_up (held pass.old.me.0) (listed list.old.me.0))) }
     ensures tallies { Tallies (listed list.old.me.0) (held pass.old.me.0) }
 {
-    come(board, list, pass);
-    hear(board, list);
-    visit(board, list, pass);
-    learn(board, pass);
+    join_pass_to_list(board, list, pass);
+    list_learns(board, list);
+    join_list_to_pass(board, list, pass);
+    pass_learns(board, pass);
 }
 
 /// A meeting in both directions, after which the pass adds the entry. The length of the list
 /// becomes `new_length`.
-pub fn enter<E>(
+pub fn add_through_pass<E>(
     board: &Board<E>,
     list: &mut Place<E>,
     pass: &mut Place<E>,
@@ -149,14 +149,14 @@ pub fn enter<E>(
     ensures tallies { Tallies (listed list.old.me.0) (held pass.old.me.0) }
     ensures after { Tallies (listed list.new.me.0) (held pass.new.me.0) }
 {
-    meet(board, list, pass);
-    come(board, list, pass);
+    pass_sees_list(board, list, pass);
+    join_pass_to_list(board, list, pass);
     add::<E, Brand>(board, list, entry, new_length);
     take_in(board, list, pass);
 }
 
 // The seat draws the number `due`, if this is the next number. It always is.
-fn draw<E, N: Drawing>(board: &Board<E>, seat: &mut Place<E>, due: u64) -> bool
+fn draw_number<E, N: Drawing>(board: &Board<E>, seat: &mut Place<E>, due: u64) -> bool
     requires seat { seat.old.table_id ≡ board.now.table_id }
     requires words { board.now.table_id.words ≡ 2 }
     requires view { seat.old.me.0 ≡ OfList (listed seat.old.me.0) }
@@ -188,7 +188,7 @@ pub fn take_number<E>(
         ≡ (OfPass (newcomer seat.id due (listed list.old.me.0).callers), [])) }
 {
     let mut seat = board.split_seat::<Copies>(list);
-    if draw::<E, Brand>(board, &mut seat, due) {
+    if draw_number::<E, Brand>(board, &mut seat, due) {
         Ok(seat)
     } else {
         Err(OutOfMemory)
@@ -207,7 +207,7 @@ pub fn end<E>(board: &Board<E>, list: &mut Place<E>)
 }
 
 /// A last meeting in both directions, after which the pass's seat is joined to the list's.
-pub fn part<E>(board: &Board<E>, list: &mut Place<E>, mut pass: Place<E>)
+pub fn end_pass<E>(board: &Board<E>, list: &mut Place<E>, mut pass: Place<E>)
     requires seats { (list.old.table_id ≡ board.now.table_id)
         × (pass.table_id ≡ board.now.table_id) }
     requires words { board.now.table_id.words ≡ 2 }
@@ -216,7 +216,7 @@ pub fn part<E>(board: &Board<E>, list: &mut Place<E>, mut pass: Place<E>)
     ensures list { IsMoved list.old list.new list.old.me.0 }
     ensures tallies { Tallies (listed list.old.me.0) (held pass.me.0) }
 {
-    meet(board, list, &mut pass);
+    pass_sees_list(board, list, &mut pass);
     board.join_seat::<Meets>(list, pass);
-    hear(board, list);
+    list_learns(board, list);
 }

@@ -10,7 +10,7 @@ use Rattle.inode_events.specs.Integrity.{Collection, digest_from, labelled_by}
 use Rattle.inode_events.specs.Says.{unless_collecting}
 use Rattle.inode_state.proofs.laws_of_journals.Stages.{Collects}
 use Rattle.xattr_store.specs.Attrs.{Pair}
-use Rattle.inode_events.specs.Past.{past}
+use Rattle.inode_events.specs.NewestFirst.{newest_first}
 use Rattle.inode_answers.specs.Changes.{labelled_on}
 use Rattle.inode_cell.specs.Sums.{HasSums}
 use Rattle.grow_list.specs.Shown.{Passed}
@@ -109,7 +109,8 @@ label_of_close i p file sums (Some c) m a h s = ap (λ (d : Digest). labelled_on
 
 -- the digests of the collection are the same once room is made
 pub sums_from : (old mid : CellValue) (sums : Digest × Digest) → mid.list ≡ old.list
-    → IsSameCell old mid → HasSums old.inode (past old.list) sums
-    → HasSums mid.inode (past mid.list) sums
-sums_from old mid sums l s h = subst (λ (v : CellValue). HasSums v.inode (past v.list) sums) (sym
+    → IsSameCell old mid → HasSums old.inode (newest_first old.list) sums
+    → HasSums mid.inode (newest_first mid.list) sums
+sums_from old mid sums l s h =
+    subst (λ (v : CellValue). HasSums v.inode (newest_first v.list) sums) (sym
     (same_value old mid l s)) h

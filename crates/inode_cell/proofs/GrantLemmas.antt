@@ -17,7 +17,7 @@ use Rattle.inode_answers.specs.Changes.{mended_on}
 use Rattle.inode_events.specs.Integrity.{Collection, Digests, collecting, digest_from, digests_of, fixed_by, label}
 use Rattle.inode_events.specs.Legal.{EachFollows, May}
 use Rattle.inode_events.specs.Listing.{signature_in, template_for}
-use Rattle.inode_events.specs.Past.{past}
+use Rattle.inode_events.specs.NewestFirst.{newest_first}
 use Rattle.inode_events.specs.Says.{finish_told, take_told, unless_collecting}
 use Rattle.inode_events.specs.Stage.{is_collecting, stage}
 use Rattle.inode_events.specs.declared.deed.Deed.{Deed}
@@ -39,10 +39,10 @@ use Rattle.inode_cell.proofs.Acting.{same_value}
 -- a property of the journal still holds once room is made
 pub moved : (old mid inner : CellValue) → mid.list ≡ old.list → IsSameCell old mid → inner ≡ mid
     → (P : Inode → List Event → Type 0)
-    → P old.inode (past old.list) → P inner.inode (past inner.list)
+    → P old.inode (newest_first old.list) → P inner.inode (newest_first inner.list)
 moved old mid inner l s e P x =
-    subst (λ (v : CellValue). P v.inode (past v.list)) (sym e) (subst (λ (v : CellValue). P v.inode
-    (past v.list)) (sym (same_value old mid l s)) x)
+    subst (λ (v : CellValue). P v.inode (newest_first v.list)) (sym e)
+    (subst (λ (v : CellValue). P v.inode (newest_first v.list)) (sym (same_value old mid l s)) x)
 
 -- the attributes that mode fix leaves are those that the journal defines
 pub mended_is : (i : Inode) (mends : Bool) (digest : Digest) (meta : Meta) (attrs : List Pair)

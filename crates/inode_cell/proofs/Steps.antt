@@ -20,7 +20,7 @@ use Rattle.inode_events.specs.Grants.{grant_of}
 use Rattle.inode_events.specs.Inode.{Inode, nobody}
 use Rattle.inode_events.specs.Integrity.{Collection, Digests, attributes_after, collecting, digest_from, in_force, integrity}
 use Rattle.inode_events.specs.Listing.{Listed}
-use Rattle.inode_events.specs.Past.{past, past_more}
+use Rattle.inode_events.specs.NewestFirst.{newest_first, past_more}
 use Rattle.inode_events.specs.Says.{check_told, finish_told, write_told, place_of, placed_in, placed_in_grant, says, take_told, unless_collecting}
 use Rattle.inode_events.specs.State.{content, content_after}
 use Rattle.inode_events.specs.declared.deed.Deed.{Deed}
@@ -125,21 +125,26 @@ not_err u e = cc
 pub holds_on : (i : Inode) (list list' : List Event) (who : Who) (d : Deed) (t : Told) (bytes
     bytes' : List ℕ) (attrs attrs' : List Pair)
     (book seen seen' : List Entry) (mine mine' : List Listed)
-    → Holds i (past list) bytes attrs seen mine
+    → Holds i (newest_first list) bytes attrs seen mine
     → list' ≡ list ++ record { who = who; deed = d; told = t } ∷ []
-    → bytes' ≡ content_after d t (content (past list))
-    → attrs' ≡ attributes_after i d t (past list) (integrity i (past list))
-    → Books book (asked i d (past list)) seen seen' mine mine'
-    → outcome i book d (past list) ≡ Some t → Holds i (past list') bytes' attrs' seen' mine'
+    → bytes' ≡ content_after d t (content (newest_first list))
+    → attrs' ≡ attributes_after i d t (newest_first list) (integrity i (newest_first list))
+    → Books book (asked i d (newest_first list)) seen seen' mine mine'
+    → outcome i book d (newest_first list) ≡ Some t
+    → Holds i (newest_first list') bytes' attrs' seen' mine'
 holds_on i list list' who d t bytes bytes' attrs attrs' book seen seen' mine mine' h l b a s o =
-    let p : past list' ≡ record { who = who; deed = d; told = t } ∷ past list = ap past l
+    let p : newest_first list' ≡ record {
+      who = who;
+      deed = d;
+      told = t;
+    } ∷ newest_first list = ap newest_first l
     ∙ past_more list (record { who = who; deed = d; told = t }) in
     subst (λ (q : List Event). Holds i q bytes' attrs' seen' mine') (sym p) (record {
       path = h.path;
       small = h.small;
       content = b;
       attributes = a;
-      booked = kept_outcome i (past list) who d t book seen seen' mine mine' h.booked s o;
+      booked = kept_outcome i (newest_first list) who d t book seen seen' mine mine' h.booked s o;
     })
 
 -- the invariant of a cell holds after the birth
@@ -147,9 +152,10 @@ pub born_holds : (i : Inode) (list : List Event) (image : Image) (bytes : List �
     Pair) (seen : List Entry) (mine : List Listed)
     → IsMeasuredPath Ima i.path → length i.birth.content ≤ most_bytes → list ≡ birth_of image ∷ []
     → bytes ≡ image.content → attrs ≡ image.attrs → mine ≡ []
-    → Holds i (past list) bytes attrs seen mine
+    → Holds i (newest_first list) bytes attrs seen mine
 born_holds i list image bytes attrs seen mine path small l b a m =
-    let p : past list ≡ birth_of image ∷ [] = ap past l ∙ past_one (birth_of image) in
+    let p : newest_first list ≡ birth_of image ∷ [] =
+    ap newest_first l ∙ past_one (birth_of image) in
     subst (λ (q : List Event). Holds i q bytes attrs seen mine) (sym p) (record {
       path = path;
       small = small;

@@ -10,7 +10,7 @@ use Rattle.inode_events.specs.Callers.{caller_in}
 use Rattle.inode_events.specs.Inode.{Inode}
 use Rattle.inode_events.specs.Integrity.{attributes, attributes_after, integrity}
 use Rattle.inode_events.specs.Legal.{May}
-use Rattle.inode_events.specs.Past.{past}
+use Rattle.inode_events.specs.NewestFirst.{newest_first}
 use Rattle.inode_events.specs.Says.{says}
 use Rattle.inode_events.specs.State.{content, content_after, metadata}
 use Rattle.inode_events.specs.declared.deed.Deed.{Deed}
@@ -27,9 +27,9 @@ use Rattle.inode_cell.specs.Value.{CellValue, IsSameCell}
 -- changes
 pub record Acts (old new : CellValue) (list list2 : List Entry) (pass pass2 : Passed Event) (who :
     Who) (d : Deed) (o : Option Told) : Type 0 where
-  pub told : o ≡ outcome old.inode list d (past old.list)
+  pub told : o ≡ outcome old.inode list d (newest_first old.list)
   pub journal : new.list ≡ old.list ++ made who d o
-  pub book : list2 ≡ list_after list (asked old.inode d (past old.list)) o
+  pub book : list2 ≡ list_after list (asked old.inode d (newest_first old.list)) o
   pub seen : pass2.seen ≡ new.list
   pub mine : pass2.mine ≡ pass.mine ++ entered (length old.list) who d o
   pub pass_name : pass2.name ≡ pass.name
@@ -44,8 +44,8 @@ pub record Stays (old new : CellValue) (pass pass2 : Passed Event) : Type 0 wher
 
 -- the pass with this number may do the deed
 pub record MayBy (cell : CellValue) (number : ℕ) (d : Deed) : Type 0 where
-  pub may : May cell.inode (past cell.list) d
-  pub by : IsBy number d (past cell.list)
+  pub may : May cell.inode (newest_first cell.list) d
+  pub by : IsBy number d (newest_first cell.list)
 
 -- a step that adds nothing to the measurement list and leaves content and attributes
 pub record IsPlain (inode : Inode) (p : List Event) (who : Who) (d : Deed) (t : Told) (k : Facts) :

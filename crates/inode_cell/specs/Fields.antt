@@ -3,7 +3,7 @@ use Rattle.std.specs.Prelude.{◌≡◌, ◌≤◌, ℕ, List, length}
 use Rattle.inode_events.specs.Inode.{Inode}
 use Rattle.inode_events.specs.Integrity.{attributes}
 use Rattle.inode_events.specs.Listing.{Listed}
-use Rattle.inode_events.specs.Past.{past}
+use Rattle.inode_events.specs.NewestFirst.{newest_first}
 use Rattle.inode_events.specs.State.{content}
 use Rattle.inode_events.specs.declared.told.Event.{Event}
 use Rattle.ima_templates.specs.Path.{IsMeasuredPath}
@@ -39,4 +39,4 @@ pub record Holds (inode : Inode) (events : List Event) (bytes : List ℕ) (attrs
   pub booked : IsBooked inode events seen mine
 
 abbrev pub IsCell : Inside → Type 0
-IsCell c = Holds c.kept.inode (past c.kept.list) c.content c.attrs c.book.seen c.book.mine
+IsCell c = Holds c.kept.inode (newest_first c.kept.list) c.content c.attrs c.book.seen c.book.mine

@@ -3,7 +3,7 @@ ghost use Rattle.std.specs.Option.{option_copied};
 ghost use Rattle.ima_templates.specs.declared.entry.Entry.{Entry as AnyEntry};
 ghost use Rattle.inode_events.specs.Callers.{caller_in};
 ghost use Rattle.inode_events.specs.Asked.{outcome};
-ghost use Rattle.inode_events.specs.Past.{past};
+ghost use Rattle.inode_events.specs.NewestFirst.{newest_first};
 ghost use Rattle.inode_events.specs.declared.deed.Deed.{Deed as AnyDeed};
 ghost use Rattle.inode_meta.specs.declared.step.Who.{Who as AnyWho};
 ghost use Rattle.inode_cell.specs.Acts.{Acts, IsChange, IsPlain, Stays};
@@ -57,7 +57,8 @@ impl InodeCell {
         requires name { pass.old.name ≡ self.old.journal }
         requires number { pass.old.number ≡ caller_in who.task deed }
         requires room { 1 ≤ self.old.spare }
-        requires plain { IsPlain self.old.inode (past self.old.list) who deed told facts.now }
+        requires plain { IsPlain self.old.inode (newest_first self.old.list) who deed told
+            facts.now }
         ensures { (list : List AnyEntry) → Acts self.old self.new list list pass.old pass.new who
             deed (Some told) }
     {
@@ -79,8 +80,8 @@ impl InodeCell {
         requires number { pass.old.number ≡ caller_in who.task deed }
         requires room { 1 ≤ self.old.spare }
         requires rewriting { IsRewriting deed (option_copied digest) }
-        requires changes { IsChange self.old.inode (past self.old.list) who deed told facts.now
-            (option_copied digest) }
+        requires changes { IsChange self.old.inode (newest_first self.old.list) who deed
+            told facts.now (option_copied digest) }
         ensures acts { OnOk result ((list : List AnyEntry) → Acts self.old self.new list list
             pass.old pass.new who deed (Some told)) }
         ensures err { OnErr result (Stays self.old self.new pass.old pass.new) }
@@ -105,7 +106,7 @@ impl InodeCell {
     pub(crate) fn block(&mut self, pass: &mut Pass<Event>)
         requires { pass.old.name ≡ self.old.journal }
         ensures { (list : List AnyEntry) (who : AnyWho) (d : AnyDeed)
-            → outcome self.old.inode list d (past self.old.list) ≡ None
+            → outcome self.old.inode list d (newest_first self.old.list) ≡ None
             → Acts self.old self.new list list pass.old pass.new who d None }
     {
         self.kept.look(pass);

@@ -5,7 +5,7 @@ ghost use Rattle.inode_events.specs.Checks.{no_action};
 ghost use Rattle.inode_events.specs.Legal.{May};
 ghost use Rattle.inode_events.specs.Listing.{violated};
 ghost use Rattle.inode_state.specs.laws_of_journals.Own.{IsBy};
-ghost use Rattle.inode_events.specs.Past.{past};
+ghost use Rattle.inode_events.specs.NewestFirst.{newest_first};
 ghost use Rattle.inode_events.specs.Says.{place_of};
 ghost use Rattle.inode_events.specs.State.{metadata};
 ghost use Rattle.rule_match.specs.Decision.{access_of, decide_of};
@@ -64,10 +64,12 @@ impl InodeCell {
         requires name { pass.old.name ≡ self.old.journal }
         requires number { pass.old.number ≡ who.task + 1 }
         requires book_name { self.old.book ≡ book.old.name }
-        requires may { May self.old.inode (past self.old.list) (Deed.Check file func no_action 0) }
-        requires by { IsBy pass.old.number (Deed.Check file func no_action 0) (past self.old.list) }
+        requires may { May self.old.inode (newest_first self.old.list)
+            (Deed.Check file func no_action 0) }
+        requires by { IsBy pass.old.number (Deed.Check file func no_action 0)
+            (newest_first self.old.list) }
         ensures action { IfOk result (λ c. c.action ≡ decide_of rules.now (access_of cred.now
-            place.now (metadata (past self.old.list)) func mask)) }
+            place.now (metadata (newest_first self.old.list)) func mask)) }
         ensures acts { IfOk result (λ c. Acts self.old self.new book.old.list book.new.list
             pass.old pass.new who (Deed.Check file func c.action (length rules.now)) (Some
             (found_told c.found))) }
@@ -116,7 +118,7 @@ impl InodeCell {
         let (readers, writers, must) = (
             state.counts.readers,
             state.counts.writers,
-            state.marks.must,
+            state.marks.must_measure,
         );
         let entry = self.violation(found(writing, action.measure, readers, writers, must, 0))?;
         self.reserve()?;

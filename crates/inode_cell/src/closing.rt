@@ -2,7 +2,7 @@
 ghost use Rattle.std.specs.Prelude.{◌≡◌, ◌==◌, ◌&&◌, ◌+◌, List, Some, IfOk, OnOk, OnErr};
 ghost use Rattle.inode_events.specs.Files.{writers};
 ghost use Rattle.inode_events.specs.Marks.{is_label_due};
-ghost use Rattle.inode_events.specs.Past.{past};
+ghost use Rattle.inode_events.specs.NewestFirst.{newest_first};
 ghost use Rattle.inode_answers.specs.Answers.{CloseBeginsBy, close_taken_told, finished_told};
 ghost use Rattle.inode_cell.specs.Sums.{HasSums};
 ghost use Rattle.ima_templates.specs.declared.entry.Entry.{Entry as AnyEntry};
@@ -42,9 +42,9 @@ impl InodeCell {
 
     // Whether a writer's close has to write a label: the writer is the only one, and a label is
     // due.
-    fn owes_label(&self) -> bool
-        ensures { result ≡ ((writers (past self.now.list) == 1) && is_label_due self.now.inode
-            (past self.now.list)) }
+    fn is_label_due_now(&self) -> bool
+        ensures { result ≡ ((writers (newest_first self.now.list) == 1) && is_label_due
+            self.now.inode (newest_first self.now.list)) }
     {
         let state = self.kept.state();
         let marks = state.marks;
@@ -79,7 +79,7 @@ impl InodeCell {
         }
         self.reserve()?;
         let algo = self.kept.settings().hash;
-        if self.owes_label() {
+        if self.is_label_due_now() {
             let facts = Facts::closing(None, algo);
             self.step(pass, who, Deed::CloseTake { file }, Told::Begun, &facts);
             Ok(CloseTaken::Begun(algo))
@@ -103,7 +103,7 @@ impl InodeCell {
         requires name { pass.old.name ≡ self.old.journal }
         requires number { pass.old.number ≡ who.task + 1 }
         requires may { MayBy self.old pass.old.number (Deed.CloseFinish file) }
-        requires sums { HasSums self.old.inode (past self.old.list) sums }
+        requires sums { HasSums self.old.inode (newest_first self.old.list) sums }
         ensures acts { IfOk result (λ labelled. (list : List AnyEntry)
             → Acts self.old self.new list list pass.old pass.new who (Deed.CloseFinish file) (Some
             (finished_told labelled))) }

@@ -8,7 +8,7 @@ ghost use Rattle.inode_events.specs.Callers.{caller_of};
 ghost use Rattle.inode_events.specs.EndedInode.{ended_inode};
 ghost use Rattle.inode_events.specs.Integrity.{attributes};
 ghost use Rattle.inode_events.specs.Legal.{Legal};
-ghost use Rattle.inode_events.specs.Past.{past};
+ghost use Rattle.inode_events.specs.NewestFirst.{newest_first};
 ghost use Rattle.inode_events.specs.State.{content};
 ghost use Rattle.inode_pages.specs.Content.{most_bytes};
 ghost use Rattle.inode_meta.specs.declared.measurement.Template.TheVariants.{Ima};
@@ -98,21 +98,21 @@ impl InodeCell {
 
     /// What follows from the journal, but for content and attributes.
     pub fn state(&self) -> &State
-        ensures { IsState self.now.inode (past self.now.list) result.now }
+        ensures { IsState self.now.inode (newest_first self.now.list) result.now }
     {
         self.kept.state()
     }
 
     /// The content after the journal.
     pub fn content(&self) -> &Content
-        ensures { result.now ≡ content (past self.now.list) }
+        ensures { result.now ≡ content (newest_first self.now.list) }
     {
         &self.content
     }
 
     /// The extended attributes after the journal.
     pub fn attrs(&self) -> &Attrs
-        ensures { result.now ≡ attributes self.now.inode (past self.now.list) }
+        ensures { result.now ≡ attributes self.now.inode (newest_first self.now.list) }
     {
         &self.attrs
     }
@@ -133,8 +133,8 @@ impl InodeCell {
             pass.new.mine }
         ensures own { entries_of pass.new.number (map caller_of self.old.list) self.old.list
             ≡ pass.new.mine }
-        ensures legal { Legal self.old.inode (past self.old.list) }
-        ensures owned { IsOwned (past self.old.list) }
+        ensures legal { Legal self.old.inode (newest_first self.old.list) }
+        ensures owned { IsOwned (newest_first self.old.list) }
         ensures within { All (λ e. caller_of e < self.old.callers) self.old.list }
     {
         self.kept.look(pass);
@@ -152,11 +152,11 @@ impl InodeCell {
             passes.items }
         ensures places { (k : ℕ) → k < length self.list
             → count_by (λ p. has_place k p.mine) passes.items ≡ beside_own k }
-        ensures legal { Legal self.inode (past self.list) }
-        ensures owned { IsOwned (past self.list) }
+        ensures legal { Legal self.inode (newest_first self.list) }
+        ensures owned { IsOwned (newest_first self.list) }
         ensures within { All (λ e. caller_of e < self.callers) self.list }
         ensures book { (result.1.name ≡ self.book) × (result.1.number ≡ self.booked) }
-        ensures booked { IsBooked self.inode (past self.list) result.1.seen result.1.mine }
+        ensures booked { IsBooked self.inode (newest_first self.list) result.1.seen result.1.mine }
     {
         let InodeCell {
             kept,

@@ -15,7 +15,7 @@ ghost use Rattle.inode_events.specs.Checks.{Check, appraises, last_check, slot_o
 ghost use Rattle.inode_events.specs.Grants.{admits, is_mend, mend_of, mends, placed_if_measured, verdict_for};
 ghost use Rattle.inode_events.specs.Integrity.{chosen_algo, collecting, in_force, label};
 ghost use Rattle.inode_events.specs.Listing.{signature_in};
-ghost use Rattle.inode_events.specs.Past.{past};
+ghost use Rattle.inode_events.specs.NewestFirst.{newest_first};
 ghost use Rattle.inode_events.specs.Verdicts.{judged};
 ghost use Rattle.inode_state.specs.Collecting.{IsAsked};
 ghost use Rattle.xattr_store.specs.Attrs.{most_value};
@@ -56,7 +56,8 @@ impl InodeCell {
 
     // The verdict computed afresh over this digest.
     fn judged(&self, need: Need, algos: Option<AlgoSet>, digest: &Digest) -> Verdict
-        ensures { result ≡ judged self.now.inode need algos digest.now (past self.now.list) }
+        ensures { result ≡ judged self.now.inode need algos digest.now
+            (newest_first self.now.list) }
     {
         verdict(
             need,
@@ -74,7 +75,7 @@ impl InodeCell {
     // digest.
     fn verdict_for(&self, asked: &Asked, digest: &Digest) -> Option<Verdict>
         ensures { (check : Check) → IsAsked check asked.now
-            → result ≡ verdict_for self.now.inode check digest.now (past self.now.list) }
+            → result ≡ verdict_for self.now.inode check digest.now (newest_first self.now.list) }
     {
         if !self.appraises(&asked.action) {
             return None;
@@ -87,7 +88,8 @@ impl InodeCell {
 
     // The change that mode fix would make for the verdict.
     fn mend_of(&self, action: &Action, digest: &Digest, found: Verdict) -> Mend
-        ensures { result ≡ mend_of self.now.inode action.now digest.now found (past self.now.list) }
+        ensures { result ≡ mend_of self.now.inode action.now digest.now found
+            (newest_first self.now.list) }
     {
         let default = self.kept.settings().hash;
         let label = self.label();
@@ -106,7 +108,8 @@ impl InodeCell {
 
     // Whether the mode is fix and changes the attributes.
     fn mends(&self, action: &Action, digest: &Digest, verdict: Option<Verdict>) -> bool
-        ensures { result ≡ mends self.now.inode action.now digest.now verdict (past self.now.list) }
+        ensures { result ≡ mends self.now.inode action.now digest.now verdict
+            (newest_first self.now.list) }
     {
         match verdict {
             None => false,
@@ -119,7 +122,7 @@ impl InodeCell {
 
     // The label, if it is a signature; otherwise no bytes.
     fn signature(&self) -> &[u8]
-        ensures is { result.now ≡ signature_in (label self.now.inode (past self.now.list)) }
+        ensures is { result.now ≡ signature_in (label self.now.inode (newest_first self.now.list)) }
         ensures fits { length result.now ≤ most_value }
     {
         self.attrs.value_fits(IMA_NAME);
@@ -130,9 +133,9 @@ impl InodeCell {
     fn measured(&self, action: &Action, sums: &Sums) -> Result<Option<Entry>, OutOfMemory>
         requires { sums.now.sha1.algo ≡ Algo.Sha1 }
         ensures { IfOk result (λ e. (file : ℕ)
-            → action.now ≡ (last_check file (past self.now.list)).action
-            → e ≡ measured_if (last_check file (past self.now.list)).action.measure self.now.inode
-            file (Some (digests_in sums.now)) (past self.now.list)) }
+            → action.now ≡ (last_check file (newest_first self.now.list)).action
+            → e ≡ measured_if (last_check file (newest_first self.now.list)).action.measure
+            self.now.inode file (Some (digests_in sums.now)) (newest_first self.now.list)) }
     {
         if !action.measure {
             return Ok(None);
@@ -151,7 +154,7 @@ impl InodeCell {
 
     // The digests in force, by the chosen algorithm and by SHA-1.
     fn in_force(&self) -> Option<Sums>
-        ensures { result ≡ sums_in_force (in_force self.now.inode (past self.now.list)) }
+        ensures { result ≡ sums_in_force (in_force self.now.inode (newest_first self.now.list)) }
     {
         match &self.kept.state().in_force {
             None => None,
@@ -176,8 +179,8 @@ impl InodeCell {
         requires number { pass.old.number ≡ caller_in who.task deed }
         requires book_name { self.old.book ≡ book.old.name }
         requires may { MayBy self.old pass.old.number deed }
-        requires grants { IsGranting self.old.inode (past self.old.list) who deed file asked.now
-            sums.now facts.now }
+        requires grants { IsGranting self.old.inode (newest_first self.old.list) who deed
+            file asked.now sums.now facts.now }
         ensures acts { IfOk result (λ g. Acts self.old self.new book.old.list book.new.list
             pass.old pass.new who deed (Some (Told.Grant g))) }
         ensures book { (book.new.name ≡ book.old.name) × (book.new.callers ≡ book.old.callers) }
@@ -220,12 +223,12 @@ impl InodeCell {
         requires number { pass.old.number ≡ who.task + 1 }
         requires book_name { self.old.book ≡ book.old.name }
         requires may { MayBy self.old pass.old.number (Deed.Take file) }
-        requires slot { slot ≡ slot_of (last_check file (past self.old.list)).func }
-        requires action { action.now ≡ (last_check file (past self.old.list)).action }
+        requires slot { slot ≡ slot_of (last_check file (newest_first self.old.list)).func }
+        requires action { action.now ≡ (last_check file (newest_first self.old.list)).action }
         ensures acts { IfOk result (λ t. Acts self.old self.new book.old.list book.new.list
             pass.old pass.new who (Deed.Take file) (taken_told t)) }
-        ensures algo { IfOk result (λ t. BeginsBy (chosen_algo self.old.inode (past self.old.list))
-            t) }
+        ensures algo { IfOk result
+            (λ t. BeginsBy (chosen_algo self.old.inode (newest_first self.old.list)) t) }
         ensures book { (book.new.name ≡ book.old.name) × (book.new.callers ≡ book.old.callers) }
         ensures err { OnErr result (Stays self.old self.new pass.old pass.new) }
         ensures err_book { OnErr result (book.new.list ≡ book.old.list) }
@@ -256,12 +259,12 @@ impl InodeCell {
 
     // The facts that come with the event of a take.
     fn taking(&self, file: u64, slot: Slot, action: &Action, algo: Algo) -> Facts
-        requires may { stage self.now.inode file (past self.now.list) ≡ asked_stage }
-        requires slot { slot ≡ slot_of (last_check file (past self.now.list)).func }
-        requires action { action.now ≡ (last_check file (past self.now.list)).action }
-        requires algo { algo ≡ chosen_algo self.now.inode (past self.now.list) }
+        requires may { stage self.now.inode file (newest_first self.now.list) ≡ asked_stage }
+        requires slot { slot ≡ slot_of (last_check file (newest_first self.now.list)).func }
+        requires action { action.now ≡ (last_check file (newest_first self.now.list)).action }
+        requires algo { algo ≡ chosen_algo self.now.inode (newest_first self.now.list) }
         ensures { (who : AnyWho) (t : AnyTold)
-            → AreFacts self.now.inode (past self.now.list) (record {
+            → AreFacts self.now.inode (newest_first self.now.list) (record {
               who = who;
               deed = Deed.Take
                   file;
@@ -290,7 +293,7 @@ impl InodeCell {
         requires number { pass.old.number ≡ who.task + 1 }
         requires book_name { self.old.book ≡ book.old.name }
         requires may { MayBy self.old pass.old.number (Deed.Finish file) }
-        requires sums { HasSums self.old.inode (past self.old.list) sums }
+        requires sums { HasSums self.old.inode (newest_first self.old.list) sums }
         ensures acts { IfOk result (λ g. Acts self.old self.new book.old.list book.new.list
             pass.old pass.new who (Deed.Finish file) (Some (Told.Grant g))) }
         ensures book { (book.new.name ≡ book.old.name) × (book.new.callers ≡ book.old.callers) }
@@ -314,9 +317,9 @@ impl InodeCell {
 
     // What the file's last check asked for. The file's collection has its last piece.
     fn asked_for(&self, file: u64) -> Asked
-        requires stage { stage self.now.inode file (past self.now.list) ≡ collected_stage }
-        ensures asked { IsAsked (last_check file (past self.now.list)) result }
-        ensures collects { Collects file (collecting self.now.inode (past self.now.list)) }
+        requires stage { stage self.now.inode file (newest_first self.now.list) ≡ collected_stage }
+        ensures asked { IsAsked (last_check file (newest_first self.now.list)) result }
+        ensures collects { Collects file (collecting self.now.inode (newest_first self.now.list)) }
     {
         match asked_in(&self.kept.state().collecting) {
             Some(asked) => asked,

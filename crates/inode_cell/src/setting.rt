@@ -3,7 +3,7 @@ ghost use Rattle.std.specs.Prelude.{◌≡◌, ◌+◌, false, is_some, List, So
 ghost use Rattle.std.specs.Option.{option_copied};
 ghost use Rattle.ima_templates.specs.declared.entry.Entry.{Entry as AnyEntry};
 ghost use Rattle.inode_events.specs.Integrity.{collecting};
-ghost use Rattle.inode_events.specs.Past.{past};
+ghost use Rattle.inode_events.specs.NewestFirst.{newest_first};
 ghost use Rattle.inode_events.specs.Says.{is_no_label, is_too_long, set_attr_told, set_meta_told};
 ghost use Rattle.inode_cell.specs.Acts.{Acts, Stays};
 ghost use Rattle.inode_answers.specs.Answers.{set_told};
@@ -22,7 +22,7 @@ impl InodeCell {
     // applies, or else done.
     fn attr_answer(&self, name: &[u8], value: &Option<Bytes>, admin: bool) -> Set
         ensures { set_told result ≡ Some (set_attr_told self.now.inode name.now value.now admin
-            (past self.now.list)) }
+            (newest_first self.now.list)) }
     {
         let is_label = name == IMA_NAME;
         if !self.is_present() {
@@ -45,7 +45,8 @@ impl InodeCell {
 
     // The result of a change of mode or owner if no collection is open.
     fn meta_answer(&self) -> Set
-        ensures { set_told result ≡ Some (set_meta_told self.now.inode (past self.now.list)) }
+        ensures { set_told result
+            ≡ Some (set_meta_told self.now.inode (newest_first self.now.list)) }
     {
         if self.is_present() {
             let evm = &self.kept.settings().evm;
@@ -131,7 +132,7 @@ impl InodeCell {
     ) -> Result<Set, OutOfMemory>
         requires name { pass.old.name ≡ self.old.journal }
         requires number { pass.old.number ≡ who.task + 1 }
-        requires free { is_some (collecting self.old.inode (past self.old.list)) ≡ false }
+        requires free { is_some (collecting self.old.inode (newest_first self.old.list)) ≡ false }
         ensures acts { IfOk result (λ s. (list : List AnyEntry)
             → Acts self.old self.new list list pass.old pass.new who (Deed.SetAttr name value
             admin) (set_told s)) }

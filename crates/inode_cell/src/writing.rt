@@ -4,7 +4,7 @@ ghost use Rattle.hash_algos.specs.Digest.{digest_of};
 ghost use Rattle.ima_templates.specs.declared.entry.Entry.{Entry as AnyEntry};
 ghost use Rattle.inode_events.specs.Integrity.{Collection as AnyCollection, collecting};
 ghost use Rattle.inode_events.specs.Legal.{May};
-ghost use Rattle.inode_events.specs.Past.{past};
+ghost use Rattle.inode_events.specs.NewestFirst.{newest_first};
 ghost use Rattle.inode_events.specs.Says.{chunk_told};
 ghost use Rattle.inode_events.specs.State.{content};
 ghost use Rattle.inode_pages.specs.Content.{bytes_at, piece_at};
@@ -26,13 +26,14 @@ use std::alloc::AllocError as OutOfMemory;
 impl InodeCell {
     // The next piece of the open collection, for a deed that takes it.
     fn next_piece(&self, deed: &Deed) -> Result<(Piece, Page), OutOfMemory>
-        requires may { May self.now.inode (past self.now.list) deed.now }
+        requires may { May self.now.inode (newest_first self.now.list) deed.now }
         requires piece { IsPieceDeed deed.now }
-        ensures told { IfOk result (λ r. chunk_told (content (past self.now.list)) (collecting
-            self.now.inode (past self.now.list)) ≡ Some (piece_told r.0)) }
+        ensures told { IfOk result
+            (λ r. chunk_told (content (newest_first self.now.list)) (collecting
+            self.now.inode (newest_first self.now.list)) ≡ Some (piece_told r.0)) }
         ensures page { IfOk result (λ r. (c : AnyCollection)
-            → collecting self.now.inode (past self.now.list) ≡ Some c
-            → r.1 ≡ piece_at (content (past self.now.list)) c.pieces) }
+            → collecting self.now.inode (newest_first self.now.list) ≡ Some c
+            → r.1 ≡ piece_at (content (newest_first self.now.list)) c.pieces) }
     {
         let Some(collecting) = &self.kept.state().collecting else {
             unreachable!()
@@ -55,8 +56,8 @@ impl InodeCell {
         ensures acts { IfOk result (λ r. (list : List AnyEntry)
             → Acts self.old self.new list list pass.old pass.new who deed (Some (piece_told r.0))) }
         ensures page { IfOk result (λ r. (c : AnyCollection)
-            → collecting self.old.inode (past self.old.list) ≡ Some c
-            → r.1 ≡ piece_at (content (past self.old.list)) c.pieces) }
+            → collecting self.old.inode (newest_first self.old.list) ≡ Some c
+            → r.1 ≡ piece_at (content (newest_first self.old.list)) c.pieces) }
         ensures err { OnErr result (Stays self.old self.new pass.old pass.new) }
     {
         self.reserve()?;
@@ -79,8 +80,8 @@ impl InodeCell {
             → Acts self.old self.new list list pass.old pass.new who (Deed.Chunk file) (Some
             (piece_told r.0))) }
         ensures page { IfOk result (λ r. (c : AnyCollection)
-            → collecting self.old.inode (past self.old.list) ≡ Some c
-            → r.1 ≡ piece_at (content (past self.old.list)) c.pieces) }
+            → collecting self.old.inode (newest_first self.old.list) ≡ Some c
+            → r.1 ≡ piece_at (content (newest_first self.old.list)) c.pieces) }
         ensures err { OnErr result (Stays self.old self.new pass.old pass.new) }
     {
         self.take_piece(pass, who, Deed::Chunk { file })
@@ -100,8 +101,8 @@ impl InodeCell {
             → Acts self.old self.new list list pass.old pass.new who (Deed.CloseChunk file) (Some
             (piece_told r.0))) }
         ensures page { IfOk result (λ r. (c : AnyCollection)
-            → collecting self.old.inode (past self.old.list) ≡ Some c
-            → r.1 ≡ piece_at (content (past self.old.list)) c.pieces) }
+            → collecting self.old.inode (newest_first self.old.list) ≡ Some c
+            → r.1 ≡ piece_at (content (newest_first self.old.list)) c.pieces) }
         ensures err { OnErr result (Stays self.old self.new pass.old pass.new) }
     {
         self.take_piece(pass, who, Deed::CloseChunk { file })
@@ -109,8 +110,8 @@ impl InodeCell {
 
     // Hashes at most `len` bytes, starting at the byte `from`.
     fn hashed(&self, from: u64, len: u64) -> Got
-        ensures n { result.n ≡ length (bytes_at (content (past self.now.list)) from len) }
-        ensures digest { result.digest ≡ digest_of Algo.Sha256 (bytes_at (content (past
+        ensures n { result.n ≡ length (bytes_at (content (newest_first self.now.list)) from len) }
+        ensures digest { result.digest ≡ digest_of Algo.Sha256 (bytes_at (content (newest_first
             self.now.list)) from len) }
     {
         let (n, digest) = hashed_at(&self.content, from, len);

@@ -5,7 +5,7 @@ use Rattle.ima_templates.specs.xattrs.Attrs.{Pair}
 use Rattle.inode_events.specs.Files.{execs, readers, writers}
 use Rattle.inode_events.specs.Inode.{Inode}
 use Rattle.inode_events.specs.Integrity.{attributes, in_force}
-use Rattle.inode_events.specs.Past.{past}
+use Rattle.inode_events.specs.NewestFirst.{newest_first}
 use Rattle.inode_events.specs.declared.told.Event.{Event}
 
 -- its path and journal, and the state that follows from the journal: the digest in force by the
@@ -24,9 +24,9 @@ abbrev pub ended_inode : Inode → List Event → EndedInodeValue
 ended_inode inode journal = record {
   path = inode.path;
   journal = journal;
-  force = option_map (λ f. f.digest) (in_force inode (past journal));
-  attrs = attributes inode (past journal);
-  writers = writers (past journal);
-  readers = readers (past journal);
-  execs = execs (past journal);
+  force = option_map (λ f. f.digest) (in_force inode (newest_first journal));
+  attrs = attributes inode (newest_first journal);
+  writers = writers (newest_first journal);
+  readers = readers (newest_first journal);
+  execs = execs (newest_first journal);
 }

@@ -1,4 +1,4 @@
-pub mod Past
+pub mod NewestFirst
 pub mod Inode
 pub mod Files
 pub mod State

@@ -12,7 +12,7 @@ use Rattle.inode_meta.specs.declared.step.Who.{Who}
 use Rattle.inode_events.specs.declared.deed.Deed.{Deed}
 use Rattle.inode_events.specs.declared.deed.Deed.TheVariants as deed
 use Rattle.inode_events.specs.declared.told.Told.{Told}
-use Rattle.inode_events.specs.Past.{past, past_more}
+use Rattle.inode_events.specs.NewestFirst.{newest_first, past_more}
 use Rattle.inode_events.specs.Stage.{is_gone, stage}
 use Rattle.inode_events.specs.declared.deed.How.{How}
 use Rattle.std.specs.Prelude.{slice_get}
@@ -30,14 +30,14 @@ use Rattle.inode_events.specs.declared.image.Image.{Image}
 use Rattle.inode_events.specs.declared.told.Told.TheVariants as told
 use Rattle.inode_state.specs.Value.{birth_in, birth_of}
 
-pub length_past : (list : List Event) → length (past list) ≡ length list
-unfolding past
+pub length_past : (list : List Event) → length (newest_first list) ≡ length list
+unfolding newest_first
 length_past list = length-reverse list
 
 -- appending an event leaves the birth
-pub birth_same : (list : List Event) (e : Event) → IsBorn (past list)
+pub birth_same : (list : List Event) (e : Event) → IsBorn (newest_first list)
     → birth_in (list ++ e ∷ []) ≡ birth_in list
-unfolding past
+unfolding newest_first
 birth_same [] e b = absurd b
 birth_same (x ∷ xs) e b = refl
 
@@ -48,14 +48,14 @@ pub record IsSmall (s : State) (n : ℕ) : Type 0 where
   pub execs : s.counts.execs < n + 1
   pub pieces : pieces_taken s.collecting < n + 1
 
-pub small : (i : Inode) (list : List Event) (s : State) → IsState i (past list) s
+pub small : (i : Inode) (list : List Event) (s : State) → IsState i (newest_first list) s
     → IsSmall s (length list)
 small i list s h =
     let len = length_past list in
-    let w = few is_writer (past list) in
-    let r = few is_reader (past list) in
-    let x = few is_exec (past list) in
-    let p = few_pieces i (past list) s.collecting h.collecting in
+    let w = few is_writer (newest_first list) in
+    let r = few is_reader (newest_first list) in
+    let x = few is_exec (newest_first list) in
+    let p = few_pieces i (newest_first list) s.collecting h.collecting in
     record {
       writers = omega (arith, h.counts.writers, w, len);
       readers = omega (arith, h.counts.readers, r, len);
@@ -72,12 +72,14 @@ follows_by i p who d t b m s = (b, m, s)
 -- the invariant holds after one more event
 pub kept_on : (i : Inode) (g g' : Grown Event) (own : Passed Event) (s s' : State) (e : Event)
     (number : ℕ) → Keeps i g own s
-    → Follows i (past g.list) e.who e.deed e.told → IsBy (caller_of e) e.deed (past g.list)
-    → number ≡ caller_of e
+    → Follows i (newest_first g.list) e.who e.deed e.told
+    → IsBy (caller_of e) e.deed (newest_first g.list) → number ≡ caller_of e
     → g'.name ≡ g.name → g'.callers ≡ g.callers → number < g'.callers → g'.list ≡ g.list ++ e ∷ []
-    → g'.numbers ≡ g.numbers ++ number ∷ [] → IsState i (e ∷ past g.list) s' → Keeps i g' own s'
+    → g'.numbers ≡ g.numbers ++ number ∷ [] → IsState i (e ∷ newest_first g.list) s'
+    → Keeps i g' own s'
 kept_on i g g' own s s' e number k f by n name callers below list numbers state =
-    let p : past g'.list ≡ e ∷ past g.list = ap past list ∙ past_more g.list e in
+    let p : newest_first g'.list ≡ e ∷ newest_first g.list =
+    ap newest_first list ∙ past_more g.list e in
     record {
       legal = subst (λ (q : List Event). IsBorn q × EachFollows i q) (sym p) (tt, (f, k.legal.1));
       numbers = numbers ∙ ap (λ (ns : List ℕ). ns ++ number ∷ []) k.numbers
@@ -101,16 +103,17 @@ abbrev pub how_of_event : Option Event → Option How
 how_of_event None = None
 how_of_event (Some e) = counted e.deed e.told
 
-pub held_at : (i : Inode) (list : List Event) (file : ℕ) (o : Option Event) → Legal i (past list)
-    → o ≡ slice_get list file
-    → is_gone (stage i file (past list)) ≡ false → how_of_event o ≡ held file (past list)
+pub held_at : (i : Inode) (list : List Event) (file : ℕ) (o : Option Event)
+    → Legal i (newest_first list) → o ≡ slice_get list file
+    → is_gone (stage i file (newest_first list)) ≡ false
+    → how_of_event o ≡ held file (newest_first list)
 held_at i list file o legal is alive =
-    let h = held_counted i file (past list) legal.1 alive in
+    let h = held_counted i file (newest_first list) legal.1 alive in
     ap how_of_event (is ∙ sym (event_there file list) ∙ h.stands) ∙ h.said ∙ sym h.holds
 
 -- the past of a journal of one event is that event
-pub past_one : (e : Event) → past (e ∷ []) ≡ e ∷ []
-unfolding past
+pub past_one : (e : Event) → newest_first (e ∷ []) ≡ e ∷ []
+unfolding newest_first
 past_one e = refl
 
 -- the invariant holds for a journal that has only its birth
@@ -119,7 +122,8 @@ pub keeps_born : (i : Inode) (g : Grown Event) (own : Passed Event) (s : State) 
     → g.numbers ≡ 0 ∷ [] → own.name ≡ g.name → own.number ≡ 0 → own.mine ≡ (0, birth_of image) ∷ []
     → 0 < g.callers → IsState i (birth_of image ∷ []) s → Keeps i g own s
 keeps_born i g own s image born list numbers name number mine callers state =
-    let p : past g.list ≡ birth_of image ∷ [] = ap past list ∙ past_one (birth_of image) in
+    let p : newest_first g.list ≡ birth_of image ∷ [] =
+    ap newest_first list ∙ past_one (birth_of image) in
     record {
       legal = subst (λ (q : List Event). IsBorn q
           × EachFollows i q) (sym p) (tt, ((refl, refl, ap told.Image (sym born)), tt));

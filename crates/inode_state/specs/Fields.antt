@@ -4,7 +4,7 @@ use Rattle.grow_list.specs.Shown.{Grown, Passed}
 use Rattle.inode_events.specs.Callers.{caller_of}
 use Rattle.inode_events.specs.Inode.{Inode}
 use Rattle.inode_events.specs.Legal.{Legal}
-use Rattle.inode_events.specs.Past.{past}
+use Rattle.inode_events.specs.NewestFirst.{newest_first}
 use Rattle.inode_events.specs.declared.told.Event.{Event}
 use Rattle.inode_state.specs.State.{IsState}
 use Rattle.inode_state.specs.declared.state.State.{State}
@@ -31,11 +31,11 @@ value_of c = record {
 
 pub record Keeps (inode : Inode) (g : Grown Event) (own : Passed Event) (s : State) : Type 0 where
   -- the journal is legal
-  pub legal : Legal inode (past g.list)
+  pub legal : Legal inode (newest_first g.list)
   -- each event was added by the pass of its caller
   pub numbers : g.numbers ≡ map caller_of g.list
   -- each event on a file is by the caller who counted that file
-  pub owned : IsOwned (past g.list)
+  pub owned : IsOwned (newest_first g.list)
   -- the journal's own pass has the number 0
   pub own_name : own.name ≡ g.name
   pub own_number : own.number ≡ 0
@@ -45,7 +45,7 @@ pub record Keeps (inode : Inode) (g : Grown Event) (own : Passed Event) (s : Sta
   -- each event is by one of the callers
   pub within : All (λ e. caller_of e < g.callers) g.list
   -- the state is the one that the journal defines
-  pub state : IsState inode (past g.list) s
+  pub state : IsState inode (newest_first g.list) s
 
 abbrev pub FieldsAgree : Inside → Type 0
 FieldsAgree c = Keeps (inode_in c) c.journal c.own c.state

@@ -12,7 +12,7 @@ use Rattle.inode_state.specs.declared.marks.Marks.{Marks}
 pub record AreMarks (p : List Event) (m : Marks) : Type 0 where
   pub present : m.present ≡ present p
   pub new : m.new ≡ new p
-  pub must : m.must ≡ must_measure p
+  pub must_measure : m.must_measure ≡ must_measure p
   pub update : m.update ≡ update p
   pub versions : m.versions ≡ versions p
 

@@ -6,7 +6,7 @@ ghost use Rattle.inode_events.specs.Files.{held};
 ghost use Rattle.inode_events.specs.Legal.{Legal, May};
 ghost use Rattle.inode_events.specs.Stage.{is_gone, stage};
 ghost use Rattle.inode_events.specs.Says.{placed_in, says};
-ghost use Rattle.inode_events.specs.Past.{past};
+ghost use Rattle.inode_events.specs.NewestFirst.{newest_first};
 ghost use Rattle.inode_state.specs.Facts.{AreFacts};
 ghost use Rattle.inode_state.specs.State.{IsState};
 ghost use Rattle.journal_laws.specs.OwnLaws.{TellsByMine};
@@ -61,8 +61,8 @@ impl InodeJournal {
 
     /// The state of the inode after the last event.
     pub fn state(&self) -> &State
-        ensures kept { IsState self.now.inode (past self.now.list) result.now }
-        ensures legal { Legal self.now.inode (past self.now.list) }
+        ensures kept { IsState self.now.inode (newest_first self.now.list) result.now }
+        ensures legal { Legal self.now.inode (newest_first self.now.list) }
     {
         &self.state
     }
@@ -84,8 +84,8 @@ impl InodeJournal {
     /// How the file was opened, if it isn't dropped yet. `file` is the place of its count in the
     /// journal.
     pub fn how_at(&self, file: u64) -> Option<How>
-        ensures { is_gone (stage self.now.inode file (past self.now.list)) ≡ false
-            → result ≡ held file (past self.now.list) }
+        ensures { is_gone (stage self.now.inode file (newest_first self.now.list)) ≡ false
+            → result ≡ held file (newest_first self.now.list) }
     {
         match self.journal.at(file) {
             Some(e) => counted(e),
@@ -108,11 +108,11 @@ impl InodeJournal {
         requires name { pass.old.name ≡ self.old.name }
         requires number { pass.old.number ≡ caller_of event }
         requires room { 1 ≤ self.old.spare }
-        requires may { May self.old.inode (past self.old.list) event.deed }
-        requires told { says self.old.inode (past self.old.list) (placed_in event.told) event.deed
-            ≡ Some event.told }
-        requires by { IsBy (caller_of event) event.deed (past self.old.list) }
-        requires facts { AreFacts self.old.inode (past self.old.list) event facts.now }
+        requires may { May self.old.inode (newest_first self.old.list) event.deed }
+        requires told { says self.old.inode (newest_first self.old.list)
+            (placed_in event.told) event.deed ≡ Some event.told }
+        requires by { IsBy (caller_of event) event.deed (newest_first self.old.list) }
+        requires facts { AreFacts self.old.inode (newest_first self.old.list) event facts.now }
         ensures list { self.new.list ≡ self.old.list ++ event ∷ [] }
         ensures inode { self.new.inode ≡ self.old.inode }
         ensures same { (self.new.name ≡ self.old.name) × (self.new.callers ≡ self.old.callers) }
@@ -141,8 +141,8 @@ impl InodeJournal {
             pass.new.mine }
         ensures own { entries_of pass.new.number (map caller_of self.old.list) self.old.list
             ≡ pass.new.mine }
-        ensures legal { Legal self.old.inode (past self.old.list) }
-        ensures owned { IsOwned (past self.old.list) }
+        ensures legal { Legal self.old.inode (newest_first self.old.list) }
+        ensures owned { IsOwned (newest_first self.old.list) }
         ensures within { All (λ e. caller_of e < self.old.callers) self.old.list }
     {
         self.journal.look(pass);
@@ -195,14 +195,14 @@ impl InodeJournal {
         requires { HasOthers self passes.items }
         ensures path { result.0 ≡ self.inode.path }
         ensures list { result.1.items ≡ self.list }
-        ensures state { IsState self.inode (past self.list) result.2 }
+        ensures state { IsState self.inode (newest_first self.list) result.2 }
         ensures seen { All (λ p. IsPrefix p.seen self.list) passes.items }
         ensures own { All (λ p. entries_of p.number (map caller_of self.list) self.list ≡ p.mine)
             passes.items }
         ensures places { (k : ℕ) → k < length self.list
             → count_by (λ p. has_place k p.mine) passes.items ≡ beside_own k }
-        ensures legal { Legal self.inode (past self.list) }
-        ensures owned { IsOwned (past self.list) }
+        ensures legal { Legal self.inode (newest_first self.list) }
+        ensures owned { IsOwned (newest_first self.list) }
         ensures within { All (λ e. caller_of e < self.callers) self.list }
     {
         let InodeJournal {

@@ -18,7 +18,7 @@ pub struct Marks {
     /// An open created the file, and its last writer hasn't closed it yet.
     pub new: bool,
     /// A measured file was opened, and no writer has met a reader since.
-    pub must: bool,
+    pub must_measure: bool,
     /// A grant of a writer passed or labelled the file, so the last close may have to renew the
     /// label.
     pub update: bool,
@@ -63,8 +63,8 @@ fn new_after(e: &Event, last: bool, is_there: bool, old: bool) -> bool
     }
 }
 
-// `must` after an event. `writing` says whether the file of a check is open for writing.
-fn must_after(e: &Event, writing: bool, old: bool) -> bool
+// `must_measure` after an event. `writing` says whether the file of a check is open for writing.
+fn must_measure_after(e: &Event, writing: bool, old: bool) -> bool
     ensures { (p : List AnyEvent) → writing ≡ writes_named e.now.deed p
         → result ≡ must_measure_after e.now.deed e.now.told p old }
 {
@@ -107,7 +107,7 @@ impl Marks {
         Marks {
             present: present_after(e, self.present),
             new: new_after(e, last, self.present, self.new),
-            must: must_after(e, writing, self.must),
+            must_measure: must_measure_after(e, writing, self.must_measure),
             update: update_after(e, writing, last, self.update),
             versions: versions_after(e, self.versions),
         }

@@ -55,7 +55,7 @@ impl State {
             marks: Marks {
                 present: image.present,
                 new: false,
-                must: false,
+                must_measure: false,
                 update: false,
                 versions: image.versions,
             },

@@ -6,7 +6,7 @@ use Rattle.std.proofs.lemmas.List.{map-append, reverse-append, length-map, rever
 use Rattle.grow_list.specs.Entries.{entries_of}
 use Rattle.grow_list.proofs.Counting.{entries-below, entries-other, entries-same}
 use Rattle.inode_events.specs.Callers.{caller_of}
-use Rattle.inode_events.specs.Past.{past}
+use Rattle.inode_events.specs.NewestFirst.{newest_first}
 use Rattle.inode_events.specs.declared.told.Event.{Event}
 use Rattle.journal_laws.specs.Standing.{event_at}
 use Rattle.journal_laws.specs.Own.{own_past}
@@ -63,7 +63,7 @@ newest n (e ∷ before) =
 
 -- own entries, in the order of the shared list
 pub own_bridge : OwnIsOwn
-unfolding past
+unfolding newest_first
 own_bridge n list =
     newest n (reverse list) ∙ ap (λ (l : List Event). reverse (owns n l)) (reverse-reverse list)
 
@@ -106,6 +106,6 @@ there k (e ∷ before) =
 
 -- the event at a place, in the order of the shared list
 pub event_there : EventIsAt
-unfolding past
+unfolding newest_first
 event_there k list =
     there k (reverse list) ∙ ap (λ (l : List Event). slice_get l k) (reverse-reverse list)

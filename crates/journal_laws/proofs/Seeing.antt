@@ -11,7 +11,7 @@ use Rattle.inode_events.specs.Integrity.{collecting}
 use Rattle.inode_events.specs.Legal.{EachFollows}
 use Rattle.inode_events.specs.Stage.{Stage}
 use Rattle.inode_events.specs.Stage.{Gone, Counted, Asked, Collecting, Collected, Settled, CloseCollecting, CloseCollected}
-use Rattle.inode_events.specs.Past.{past}
+use Rattle.inode_events.specs.NewestFirst.{newest_first}
 use Rattle.inode_events.specs.Stage.{is_collecting, is_gone, stage_in}
 use Rattle.inode_events.specs.declared.told.Event.{Event}
 use Rattle.journal_laws.specs.Own.{IsOwned, NoneOf, counter, own_past}
@@ -49,17 +49,17 @@ all_reverse P (x ∷ xs) h =
 
 -- the rest of a journal, after what the caller saw, has no event of the caller
 pub beyond : NoneBeyond
-unfolding past
+unfolding newest_first
 beyond n seen list a below =
-    let split : past list ≡ past a.0 ++ past seen = ap reverse (sym a.1)
+    let split : newest_first list ≡ newest_first a.0 ++ newest_first seen = ap reverse (sym a.1)
     ∙ reverse-append seen a.0 in
-    let own : All (λ x. x.0 < length seen) (own_past n (past list)) =
+    let own : All (λ x. x.0 < length seen) (own_past n (newest_first list)) =
     subst (All (λ (x : ℕ × Event). x.0 < length seen)) (sym (own_bridge n list))
     (all_reverse (λ (x : ℕ × Event). x.0 < length seen) (entries_of n (map caller_of list) list)
     below) in (
-      past a.0,
+      newest_first a.0,
       split,
-      none_later n (length seen) (past a.0) (past seen)
+      none_later n (length seen) (newest_first a.0) (newest_first seen)
           (let e : length (reverse seen) ≡ length seen = length-reverse seen in omega arith)
           (subst (λ (l : List Event). All (λ x. x.0 < length seen) (own_past n l)) split own),
     )
@@ -107,6 +107,6 @@ seen_at i n f later p legal owned none busy =
 pub collection_seen : CollectionIsSeen
 collection_seen i n f seen list legal owned a below busy =
     let r = beyond n seen list a below in
-    ap (collecting i) r.1 ∙ seen_at i n f r.0 (past seen) (subst (EachFollows i) r.1 legal)
+    ap (collecting i) r.1 ∙ seen_at i n f r.0 (newest_first seen) (subst (EachFollows i) r.1 legal)
     (subst IsOwned r.1 owned) r.2
     (subst (λ (l : List Event). is_collecting (stage_in i f (own_past n l)) ≡ true) r.1 busy)

@@ -9,7 +9,7 @@ use Rattle.inode_events.specs.Inode.{Inode}
 use Rattle.inode_events.specs.Integrity.{collecting}
 use Rattle.inode_events.specs.Legal.{EachFollows, May}
 use Rattle.inode_events.specs.Stage.{stage, is_collecting, is_gone, stage_in}
-use Rattle.inode_events.specs.Past.{past}
+use Rattle.inode_events.specs.NewestFirst.{newest_first}
 use Rattle.inode_events.specs.declared.deed.Deed.{Deed}
 use Rattle.inode_events.specs.declared.told.Event.{Event}
 use Rattle.journal_laws.specs.Standing.{event_at}
@@ -19,7 +19,7 @@ use Rattle.journal_laws.specs.Own.{IsBy, IsOwned, MayByMine, MayByOwn, NoneOf, c
 -- journal, newest first
 abbrev pub OwnIsOwn : Type 0
 OwnIsOwn = (n : ℕ) (list : List Event)
-    → own_past n (past list) ≡ reverse (entries_of n (map caller_of list) list)
+    → own_past n (newest_first list) ≡ reverse (entries_of n (map caller_of list) list)
 
 -- the places of own entries lie within the journal
 abbrev pub OwnIsWithin : Type 0
@@ -28,7 +28,8 @@ OwnIsWithin = (n : ℕ) (list : List Event)
 
 -- the event at a place is the element of the list there
 abbrev pub EventIsAt : Type 0
-EventIsAt = (place : ℕ) (list : List Event) → event_at place (past list) ≡ slice_get list place
+EventIsAt = (place : ℕ) (list : List Event)
+    → event_at place (newest_first list) ≡ slice_get list place
 
 -- a file that isn't gone according to a caller's entries is that caller's
 abbrev pub FileIsOwn : Type 0
@@ -70,15 +71,15 @@ CollectionStays = (inode : Inode) (n file : ℕ) (later p : List Event)
 abbrev pub NoneBeyond : Type 0
 NoneBeyond = (n : ℕ) (seen list : List Event) → IsPrefix seen list
     → All (λ x. x.0 < length seen) (entries_of n (map caller_of list) list)
-    → (later : List Event) × (past list ≡ later ++ past seen) × NoneOf n later
+    → (later : List Event) × (newest_first list ≡ later ++ newest_first seen) × NoneOf n later
 
 -- a collection that is open according to a caller's entries is as the caller last saw it
 abbrev pub CollectionIsSeen : Type 0
 CollectionIsSeen = (inode : Inode) (n file : ℕ) (seen list : List Event)
-    → EachFollows inode (past list) → IsOwned (past list)
+    → EachFollows inode (newest_first list) → IsOwned (newest_first list)
     → IsPrefix seen list → All (λ x. x.0 < length seen) (entries_of n (map caller_of list) list)
-    → is_collecting (stage_in inode file (own_past n (past list))) ≡ true
-    → collecting inode (past list) ≡ collecting inode (past seen)
+    → is_collecting (stage_in inode file (own_past n (newest_first list))) ≡ true
+    → collecting inode (newest_first list) ≡ collecting inode (newest_first seen)
 
 -- ---- a look
 
@@ -87,15 +88,16 @@ CollectionIsSeen = (inode : Inode) (n file : ℕ) (seen list : List Event)
 -- had seen before, a collection that is open according to them is as it was then.
 pub record TellsByMine (inode : Inode) (n : ℕ) (seen list : List Event) (mine : List (ℕ × Event))
     : Type 0 where
-  pub may : (d : Deed) → MayByMine inode mine d → May inode (past list) d × IsBy n d (past list)
+  pub may : (d : Deed) → MayByMine inode mine d
+      → May inode (newest_first list) d × IsBy n d (newest_first list)
   pub check : (file : ℕ) → is_gone (stage_in inode file (reverse mine)) ≡ false
-      → last_check file (past list) ≡ check_in file (reverse mine)
+      → last_check file (newest_first list) ≡ check_in file (reverse mine)
   pub collection : (file : ℕ) → All (λ x. x.0 < length seen) mine
       → is_collecting (stage_in inode file (reverse mine)) ≡ true
-      → collecting inode (past list) ≡ collecting inode (past seen)
+      → collecting inode (newest_first list) ≡ collecting inode (newest_first seen)
 
 -- what the entries of a pass imply holds once the pass has looked
 abbrev pub LookTells : Type 0
 LookTells = (inode : Inode) (n : ℕ) (seen list : List Event) (mine : List (ℕ × Event))
-    → EachFollows inode (past list) → IsOwned (past list) → IsPrefix seen list
+    → EachFollows inode (newest_first list) → IsOwned (newest_first list) → IsPrefix seen list
     → entries_of n (map caller_of list) list ≡ mine → TellsByMine inode n seen list mine

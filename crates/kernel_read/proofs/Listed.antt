@@ -15,7 +15,7 @@ use Rattle.script_text.specs.steps.templates.declared.entry.Placed.{Placed}
 use Rattle.kernel_read_laws.specs.Reads.{IsReadSoundly, is_of_call, place_of_call, placed_by}
 use Rattle.kernel_read_laws.specs.laws_of_journals.Executed.{grant_event}
 use Rattle.kernel_read_laws.specs.model.EndedValue.{inodes_ended}
-use Rattle.kernel_read_laws.specs.model.Scene.{Scene, Station, inode_of}
+use Rattle.kernel_read_laws.specs.model.Scene.{Scene, ScriptFile, inode_of}
 use Rattle.kernel_read_laws.proofs.Journals.{stands_there}
 use Rattle.kernel_read_laws.proofs.Sound.{reads_soundly}
 use Rattle.kernel_read.specs.Listed.{MeasuredReadsAreListed}
@@ -51,8 +51,8 @@ has_place n k (x ∷ events) (suc j) e placed at mine names =
     found_after (named_by n k x) (place_of_call n k events) later.0 later.1
 
 -- the ended run has each inode with its journal
-ended_there : (scene : Scene) (ss : List Station) (js : List (List Event)) (i : ℕ) (s : Station)
-    (j : List Event) → slice_get ss i ≡ Some s → slice_get js i ≡ Some j
+ended_there : (scene : Scene) (ss : List ScriptFile) (js : List (List Event)) (i : ℕ)
+    (s : ScriptFile) (j : List Event) → slice_get ss i ≡ Some s → slice_get js i ≡ Some j
     → slice_get (inodes_ended scene ss js) i ≡ Some (ended_inode (inode_of scene s) j)
 ended_there scene [] js i s j at_s at_j = absurd (none-some s at_s)
 ended_there scene (x ∷ ss) [] i s j at_s at_j = absurd (none-some j at_j)
@@ -65,21 +65,21 @@ ended_there scene (x ∷ ss) (y ∷ js) (suc i) s j at_s at_j =
 
 -- proof of `MeasuredReadsAreListed`
 pub measured_listed : MeasuredReadsAreListed
-measured_listed scene ending run shown forms n k i p c t r station journal at_p at_c reads at_t
+measured_listed scene ending run shown forms n k i p c t r script_file journal at_p at_c reads at_t
     replied done at_s at_j l q who d grant g is mine file measures =
-    let sound : IsReadSoundly (inode_of scene station) run.list journal n k r =
-    reads_soundly scene ending run shown forms n k i p c t r station journal at_p at_c reads at_t
-    replied done at_s at_j in
+    let sound : IsReadSoundly (inode_of scene script_file) run.list journal n k r =
+    reads_soundly scene ending run shown forms n k i p c t r script_file journal at_p at_c
+    reads at_t replied done at_s at_j in
     let named = sound.measured l q who d grant g is mine file measures in
     let found = has_place n k journal (length q) (grant_event who d grant) named.0
     (stands_there journal l q (grant_event who d grant) is) mine
     (place_named d grant g file ∙ named.1) in
     record {
       place = found.0;
-      line = ap (call_line (inodes_ended scene scene.stations run.journals) n k c r) reads
+      line = ap (call_line (inodes_ended scene scene.script_files run.journals) n k c r) reads
           ∙ ap (inode_line n k c r)
-          (ended_there scene scene.stations run.journals i station journal at_s at_j)
-          ∙ ap (λ (o : Option Placed). load_line n k (func_raised c) station.path o r ∷ [])
+          (ended_there scene scene.script_files run.journals i script_file journal at_s at_j)
+          ∙ ap (λ (o : Option Placed). load_line n k (func_raised c) script_file.path o r ∷ [])
           found.1;
       bytes = content sound.before;
       replied = sound.replied;

@@ -5,7 +5,7 @@ use Rattle.script_text.specs.events.Admission.{granted_file}
 use Rattle.script_text.specs.events.Checks.{last_check}
 use Rattle.script_text.specs.events.Coverage.{ShowsContent}
 use Rattle.script_text.specs.events.Inode.{Inode}
-use Rattle.script_text.specs.events.Past.{past}
+use Rattle.script_text.specs.events.NewestFirst.{newest_first}
 use Rattle.script_text.specs.events.Says.{place_of}
 use Rattle.script_text.specs.events.declared.deed.Deed.{Deed}
 use Rattle.script_text.specs.events.declared.told.Event.{Event}
@@ -23,7 +23,7 @@ use Rattle.kernel_read_laws.specs.laws_of_journals.Executed.{grant_event}
 use Rattle.kernel_read_laws.specs.laws_of_runs.Places.{HasForms}
 use Rattle.kernel_read_laws.specs.model.EndedValue.{ended_of}
 use Rattle.kernel_read_laws.specs.model.History.{Thought}
-use Rattle.kernel_read_laws.specs.model.Scene.{Program, Scene, Station, inode_of}
+use Rattle.kernel_read_laws.specs.model.Scene.{Program, Scene, ScriptFile, inode_of}
 use Rattle.kernel_read_laws.specs.model.Served.{Run}
 use Rattle.kernel_read_laws.specs.model.Shown.{IsShown}
 use Rattle.kernel_read.specs.Table.{call_line, func_raised, load_line}
@@ -45,14 +45,14 @@ pub record ShowsRead (inode : Inode) (list : List Entry) (n k : ℕ) (c : Call) 
 abbrev pub MeasuredReadsAreListed : Type 0
 MeasuredReadsAreListed =
     (scene : Scene) (ending : Ending) (run : Run) → IsShown scene ending run → HasForms scene
-    → (n k i : ℕ) (p : Program) (c : Call) (t : Thought) (r : Reply) (station : Station)
+    → (n k i : ℕ) (p : Program) (c : Call) (t : Thought) (r : Reply) (script_file : ScriptFile)
     (journal : List Event)
     → slice_get scene.programs n ≡ Some p → slice_get p.calls k ≡ Some c → read_by c ≡ Some i
     → slice_get run.thoughts n ≡ Some t → slice_get t.replies k ≡ Some r → is_done r ≡ true
-    → slice_get scene.stations i ≡ Some station → slice_get run.journals i ≡ Some journal
+    → slice_get scene.script_files i ≡ Some script_file → slice_get run.journals i ≡ Some journal
     → (l q : List Event) (who : Who) (d : Deed) (grant : Grant) (g : ℕ)
-    → past journal ≡ l ++ grant_event who d grant ∷ q
+    → newest_first journal ≡ l ++ grant_event who d grant ∷ q
     → is_of_call n k (grant_event who d grant) ≡ true → granted_file d ≡ Some g
     → (last_check g q).action.measure ≡ true
-    → ShowsRead (inode_of scene station) run.list n k c r
+    → ShowsRead (inode_of scene script_file) run.list n k c r
     (call_line (ended_of scene run).inodes n k c r (read_by c))

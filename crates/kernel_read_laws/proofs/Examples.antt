@@ -8,7 +8,7 @@ use Rattle.call_steps.specs.hashes.declared.algo.Algo.TheVariants.{Sha256}
 use Rattle.call_steps.specs.templates.Same.{add_by, place_of_same, placed_by}
 use Rattle.call_steps.specs.templates.declared.entry.Placed.TheVariants.{Added}
 use Rattle.inode_events.specs.Inode.{nobody}
-use Rattle.inode_events.specs.Past.{past}
+use Rattle.inode_events.specs.NewestFirst.{newest_first}
 use Rattle.inode_events.specs.declared.deed.Deed.TheVariants as deed
 use Rattle.inode_events.specs.declared.deed.How.TheVariants as how
 use Rattle.inode_events.specs.declared.told.Event.{Event}
@@ -73,7 +73,7 @@ finishing = record {
 -- the first four turns
 hashes : turns_of one (start_of one) (0 ∷ 0 ∷ 0 ∷ 0 ∷ []) ≡ moment hashed (boot ∷ [])
     (finishing ∷ [])
-unfolding past
+unfolding newest_first
 hashes = refl
 
 -- the task before the kernel reads the content
@@ -111,7 +111,7 @@ finished at = moment (granted_at at) (add_by at (boot ∷ []) entry) (reading �
 -- the fifth turn
 finishes : turn one (moment hashed (boot ∷ []) (finishing ∷ [])) 0
     ≡ finished (place_of_same (boot ∷ []) entry)
-unfolding past
+unfolding newest_first
 finishes = refl
 
 -- all events of the call
@@ -137,7 +137,7 @@ answered = record {
 -- the last two turns
 closes : turns_of one (finished None) (0 ∷ 0 ∷ [])
     ≡ moment loaded (boot ∷ entry ∷ []) (answered ∷ [])
-unfolding past
+unfolding newest_first
 closes = refl
 
 -- the module is counted as an execution, measured, read whole and closed
@@ -202,7 +202,7 @@ writer_is_refused : turns_of both (start_of both) (0 ∷ 1 ∷ [])
     ∷ did (who 1 0 0) (deed.Count (how.Write false false)) told.TextBusy
     ∷ []
     ) (boot ∷ []) (checking ∷ refused ∷ [])
-unfolding past
+unfolding newest_first
 writer_is_refused = refl
 
 -- a module that is open for writing isn't read
@@ -213,5 +213,5 @@ writer_refuses : (turns_of both (start_of both) (1 ∷ 0 ∷ [])).state.journals
     ∷ did (who 0 0 0) (deed.Count how.Exec) told.TextBusy
     ∷ []
     ) ∷ []
-unfolding past
+unfolding newest_first
 writer_refuses = refl

@@ -4,7 +4,7 @@ use Rattle.std.specs.Prelude.{◌⊎◌, ◌==◌, slice_get}
 use Rattle.std.proofs.lemmas.Bool.{cond-false, cond-true, eq-eqb, eqb-true, ne_eqb}
 use Rattle.std.proofs.lemmas.Option.{same_Some}
 use Rattle.inode_events.specs.Callers.{caller_of}
-use Rattle.inode_events.specs.Past.{past}
+use Rattle.inode_events.specs.NewestFirst.{newest_first}
 use Rattle.inode_events.specs.declared.told.Event.{Event}
 use Rattle.shown_laws.specs.laws_of_journals.Standing.{event_at}
 use Rattle.shown_laws.specs.model.Served.{events_of}
@@ -45,8 +45,8 @@ split (x ∷ events) place e h = at (split events place e) (length events == pla
 
 -- an element of a journal stands at its index
 pub stands : (journal : List Event) (place : ℕ) (e : Event) → slice_get journal place ≡ Some e
-    → StandsAt (past journal) place e
-stands journal place e h = split (past journal) place e (event_there place journal ∙ h)
+    → StandsAt (newest_first journal) place e
+stands journal place e h = split (newest_first journal) place e (event_there place journal ∙ h)
 
 -- later events leave which event is at a place
 pub event_earlier : (place : ℕ) (later before : List Event) → place < length before
@@ -60,7 +60,7 @@ event_earlier place (e ∷ later) before l =
 
 -- an event that stands before others is an element of the journal
 pub stands_there : (journal later before : List Event) (e : Event)
-    → past journal ≡ later ++ e ∷ before → slice_get journal (length before) ≡ Some e
+    → newest_first journal ≡ later ++ e ∷ before → slice_get journal (length before) ≡ Some e
 stands_there journal later before e is =
     sym (event_there (length before) journal)
     ∙ ap (event_at (length before)) is

@@ -20,7 +20,7 @@ use Rattle.inode_events.specs.Integrity.{Collection, Digests, collecting, digest
 use Rattle.inode_events.specs.Legal.{EachFollows, Follows, Legal}
 use Rattle.inode_events.specs.Listing.{IsListed}
 use Rattle.inode_events.specs.Merged.{Journal}
-use Rattle.inode_events.specs.Past.{past}
+use Rattle.inode_events.specs.NewestFirst.{newest_first}
 use Rattle.inode_events.specs.Says.{count_told, finish_told, place_of, placed_in, read_told}
 use Rattle.inode_events.specs.Stage.{Stage, is_gone, stage, stage_after}
 use Rattle.inode_events.specs.State.{content, present}
@@ -232,14 +232,15 @@ gone_after i file place t old e =
 -- ---- a call that has counted, read and closed its file
 
 module _ (i : Inode) (list : List Entry) (journal : List Event) (n k : ℕ) (r : Reply)
-    (legal : EachFollows i (past journal)) (load : HasLoaded n k r (events_of n journal)) where
+    (legal : EachFollows i (newest_first journal))
+    (load : HasLoaded n k r (events_of n journal)) where
   -- an own event of the call stands in the journal
   own_stands_at : (j place : ℕ) (e : Event) → slice_get (events_of n journal) j ≡ Some (place, e)
-      → StandsAt (past journal) place e
+      → StandsAt (newest_first journal) place e
   own_stands_at j place e h = stands journal place e (own_there n journal j place e h)
 
   -- the event at a place, and those before it, follow
-  follows_there : (l : List Event) (e : Event) (q : List Event) → past journal ≡ l ++ e ∷ q
+  follows_there : (l : List Event) (e : Event) (q : List Event) → newest_first journal ≡ l ++ e ∷ q
       → EachFollows i (e ∷ q)
   follows_there l e q is =
       follows_at i l (e ∷ q) (subst (λ (x : List Event). EachFollows i x) is legal)
@@ -253,7 +254,7 @@ module _ (i : Inode) (list : List Entry) (journal : List Event) (n k : ℕ) (r :
   close = call_event n k load.closed.step (deed.Close load.file) load.outcome
 
   -- where the close stands
-  abbrev closing : StandsAt (past journal) load.place close
+  abbrev closing : StandsAt (newest_first journal) load.place close
   closing = own_stands_at load.closed.index load.place close load.closed.there
 
   -- the events before the close
@@ -299,15 +300,15 @@ module _ (i : Inode) (list : List Entry) (journal : List Event) (n k : ℕ) (r :
       ap (holds is_exec) (h.holds ∙ said)
 
   -- so the law of executed files holds of it
-  undisturbed : IsListed i list (past journal) → IsMeasuredPath Ima i.path → All IsNamed list
-      → IsUndisturbed i list load.file before
+  undisturbed : IsListed i list (newest_first journal) → IsMeasuredPath Ima i.path
+      → All IsNamed list → IsUndisturbed i list load.file before
   undisturbed listed path kept =
       executed i list before load.file (close_follows.0.0, close_follows.1) alive executing
       (listed_before i list closing.later (close ∷ before)
       (subst (λ (x : List Event). IsListed i list x) closing.is listed)).2 path kept
 
   -- an event on the file that isn't its close stands before the close
-  inside : (l : List Event) (e : Event) (q : List Event) → past journal ≡ l ++ e ∷ q
+  inside : (l : List Event) (e : Event) (q : List Event) → newest_first journal ≡ l ++ e ∷ q
       → is_gone (stage i load.file q) ≡ false → closes e.deed ≡ false
       → (m : List Event) × (before ≡ m ++ e ∷ q)
   inside l e q is live other =
@@ -336,7 +337,7 @@ module _ (i : Inode) (list : List Entry) (journal : List Event) (n k : ℕ) (r :
   -- ---- the read
 
   -- each measuring check of the file is answered with the content
-  answered : IsListed i list (past journal) → IsMeasuredPath Ima i.path → All IsNamed list
+  answered : IsListed i list (newest_first journal) → IsMeasuredPath Ima i.path → All IsNamed list
       → IsUndisturbed i list load.file before → (l : List Event) (check : Event) (q : List Event)
       → before ≡ l ++ check ∷ q → is_measuring load.file check.deed ≡ true
       → (place : ℕ) × (Contains (places_granted load.file l) place
@@ -370,7 +371,7 @@ module _ (i : Inode) (list : List Entry) (journal : List Event) (n k : ℕ) (r :
   replied : (u : IsUndisturbed i list load.file before)
       → r ≡ reply_with (bytes_at (content before) 0 most_bytes)
   replied u =
-      let s : StandsAt (past journal) load.read.place read =
+      let s : StandsAt (newest_first journal) load.read.place read =
       own_stands_at load.read.has.index load.read.place read load.read.has.there in
       let h : EachFollows i (read ∷ s.before) = follows_there s.later read s.before s.is in
       let live : is_gone (stage i load.file s.before) ≡ false = ap is_gone h.0.1.0 in
@@ -392,21 +393,21 @@ module _ (i : Inode) (list : List Entry) (journal : List Event) (n k : ℕ) (r :
       (eqb-true (caller_of e) (n + 1) parts.0, eqb-true e.who.call k parts.1)
 
   -- it stands among the task's own
-  own_index : (l : List Event) (e : Event) (q : List Event) → past journal ≡ l ++ e ∷ q
+  own_index : (l : List Event) (e : Event) (q : List Event) → newest_first journal ≡ l ++ e ∷ q
       → is_of_call n k e ≡ true
       → (j : ℕ) × (slice_get (events_of n journal) j ≡ Some (length q, e))
   own_index l e q is c =
       there_own n journal (length q) e (stands_there journal l q e is) (of_call e c).0
 
   -- and so is on its file
-  on_file : (l : List Event) (e : Event) (q : List Event) → past journal ≡ l ++ e ∷ q
+  on_file : (l : List Event) (e : Event) (q : List Event) → newest_first journal ≡ l ++ e ∷ q
       → is_of_call n k e ≡ true → IsOn load.file (length q, e)
   on_file l e q is c =
       let j = own_index l e q is c in load.on j.0 (length q, e) j.1 (of_call e c).1
 
   -- the call's checks are quiet
   quiet : (u : IsUndisturbed i list load.file before) (l : List Event) (e : Event)
-      (q : List Event) (g : ℕ) → past journal ≡ l ++ e ∷ q → is_of_call n k e ≡ true
+      (q : List Event) (g : ℕ) → newest_first journal ≡ l ++ e ∷ q → is_of_call n k e ≡ true
       → is_check_of g e.deed ≡ true → e.told ≡ told.Quiet
   quiet u l e q g is c check = at (on_file l e q is c) where
     at : IsOn load.file (length q, e) → e.told ≡ told.Quiet
@@ -421,7 +422,7 @@ module _ (i : Inode) (list : List Entry) (journal : List Event) (n k : ℕ) (r :
 
   -- a grant of the call is for its file, before the close
   grant_inside : (l q : List Event) (who : Who) (d : Deed) (grant : Grant) (g : ℕ)
-      → past journal ≡ l ++ grant_event who d grant ∷ q
+      → newest_first journal ≡ l ++ grant_event who d grant ∷ q
       → is_of_call n k (grant_event who d grant) ≡ true → granted_file d ≡ Some g
       → (granted_file d ≡ Some load.file)
       × ((m : List Event) × (before ≡ m ++ grant_event who d grant ∷ q))
@@ -440,7 +441,7 @@ module _ (i : Inode) (list : List Entry) (journal : List Event) (n k : ℕ) (r :
 
   -- and admits it
   admitted : (l q : List Event) (who : Who) (d : Deed) (grant : Grant) (g : ℕ)
-      → past journal ≡ l ++ grant_event who d grant ∷ q
+      → newest_first journal ≡ l ++ grant_event who d grant ∷ q
       → is_of_call n k (grant_event who d grant) ≡ true → granted_file d ≡ Some g
       → grant.admitted ≡ true
   admitted l q who d grant g is c e =
@@ -455,7 +456,7 @@ module _ (i : Inode) (list : List Entry) (journal : List Event) (n k : ℕ) (r :
   -- in mode enforce the file fits
   fitting : (u : IsUndisturbed i list load.file before) → i.settings.mode ≡ Enforce
       → (l q : List Event) (who : Who) (d : Deed) (grant : Grant) (g : ℕ)
-      → past journal ≡ l ++ grant_event who d grant ∷ q
+      → newest_first journal ≡ l ++ grant_event who d grant ∷ q
       → is_of_call n k (grant_event who d grant) ≡ true → granted_file d ≡ Some g
       → (last_check g q).action.appraise ≡ true
       → (fits i (last_check g q).action q ≡ true) × (content q ≡ content before)
@@ -476,7 +477,7 @@ module _ (i : Inode) (list : List Entry) (journal : List Event) (n k : ℕ) (r :
 
   -- a grant whose check measures names a place
   measured : (u : IsUndisturbed i list load.file before) (l q : List Event) (who : Who) (d : Deed)
-      (grant : Grant) (g : ℕ) → past journal ≡ l ++ grant_event who d grant ∷ q
+      (grant : Grant) (g : ℕ) → newest_first journal ≡ l ++ grant_event who d grant ∷ q
       → is_of_call n k (grant_event who d grant) ≡ true → granted_file d ≡ Some g
       → (last_check g q).action.measure ≡ true
       → (placed : Placed) × (grant.placed ≡ Some placed)
@@ -492,19 +493,19 @@ module _ (i : Inode) (list : List Entry) (journal : List Event) (n k : ℕ) (r :
       → ShowsContent i list (content before) (place_of placed)
   listed u placed h =
       let f : NamesPlace n k journal placed = place_found n k journal placed h in
-      let s : StandsAt (past journal) f.place f.e = stands journal f.place f.e f.there in
+      let s : StandsAt (newest_first journal) f.place f.e = stands journal f.place f.e f.there in
       let g : IsGrant f.e.deed f.e.told placed = placed_grant f.e.deed f.e.told placed f.names in
       let same : f.e ≡ grant_event f.e.who f.e.deed g.grant =
       ap (λ (t : Told). record { who = f.e.who; deed = f.e.deed; told = t }) g.is in
-      let is : past journal ≡ s.later ++ grant_event f.e.who f.e.deed g.grant ∷ s.before =
+      let is : newest_first journal ≡ s.later ++ grant_event f.e.who f.e.deed g.grant ∷ s.before =
       s.is ∙ ap (λ (e : Event). s.later ++ e ∷ s.before) same in
       let m = grant_inside s.later s.before f.e.who f.e.deed g.grant g.file is
       (subst (λ (e : Event). is_of_call n k e ≡ true) same f.of_call) g.of_file in
       u.listed m.1.0 s.before f.e.who f.e.deed g.grant placed m.1.1 m.0 g.names
 
   -- the read is sound
-  read_soundly : IsListed i list (past journal) → IsMeasuredPath Ima i.path → All IsNamed list
-      → IsReadSoundly i list journal n k r
+  read_soundly : IsListed i list (newest_first journal) → IsMeasuredPath Ima i.path
+      → All IsNamed list → IsReadSoundly i list journal n k r
   read_soundly listing path kept = let u = undisturbed listing path kept in record {
     file = load.file;
     first = load.counted.step;
@@ -529,10 +530,10 @@ module _ (i : Inode) (list : List Entry) (journal : List Event) (n k : ℕ) (r :
 -- ---- the law
 
 -- the outcomes of a task's own events are those that their deeds can have
-own_told : (i : Inode) (n : ℕ) (journal : List Event) → EachFollows i (past journal)
+own_told : (i : Inode) (n : ℕ) (journal : List Event) → EachFollows i (newest_first journal)
     → AreTold (events_of n journal)
 own_told i n journal legal j x e =
-    let s : StandsAt (past journal) x.0 x.1 = stands journal x.0 x.1
+    let s : StandsAt (newest_first journal) x.0 x.1 = stands journal x.0 x.1
     (own_there n journal j x.0 x.1 e) in
     told_there i s.before x.1.who x.1.deed x.1.told
     (follows_at i s.later (x.1 ∷ s.before)
@@ -540,18 +541,18 @@ own_told i n journal legal j x e =
 
 -- proof of `KernelReadsSoundly`
 pub reads_soundly : KernelReadsSoundly
-reads_soundly scene ending run shown forms n k i p c t r station journal at_p at_c reads at_t
+reads_soundly scene ending run shown forms n k i p c t r script_file journal at_p at_c reads at_t
     replied done at_s at_j =
-    let inode : Inode = inode_of scene station in
-    let legal : Legal (inode_of scene station) (past journal) =
-    journal_has (λ (j : Journal). Legal j.inode j.events) scene scene.stations run.journals i
-    station journal shown.legal at_s at_j in
-    let listed : IsListed (inode_of scene station) run.list (past journal) =
-    journal_has (λ (j : Journal). IsListed j.inode run.list j.events) scene scene.stations
-    run.journals i station journal shown.merged.listed at_s at_j in
-    let stood : Stood scene run (inode_of scene station) (past journal) = record {
+    let inode : Inode = inode_of scene script_file in
+    let legal : Legal (inode_of scene script_file) (newest_first journal) =
+    journal_has (λ (j : Journal). Legal j.inode j.events) scene scene.script_files run.journals i
+    script_file journal shown.legal at_s at_j in
+    let listed : IsListed (inode_of scene script_file) run.list (newest_first journal) =
+    journal_has (λ (j : Journal). IsListed j.inode run.list j.events) scene scene.script_files
+    run.journals i script_file journal shown.merged.listed at_s at_j in
+    let stood : Stood scene run (inode_of scene script_file) (newest_first journal) = record {
       number = i;
-      station = station;
+      script_file = script_file;
       journal = journal;
       at = at_s;
       journal_at = at_j;
@@ -566,8 +567,8 @@ reads_soundly scene ending run shown forms n k i p c t r station journal at_p at
     let load : HasLoaded n k r (events_of n journal) =
     subst (λ (xs : List (ℕ × Event)). HasLoaded n k r xs) (sym same)
     (loaded (mode_of scene) n p i k c served.history r at_c reads
-    (subst AreTold same (own_told (inode_of scene station) n journal legal.1))
+    (subst AreTold same (own_told (inode_of scene script_file) n journal legal.1))
     (ap (λ (u : Thought). slice_get u.replies k) served.stands ∙ replied) done) in
-    read_soundly (inode_of scene station) run.list journal n k r legal.1 load listed
-    (path_there scene run (inode_of scene station) (past journal) forms stood)
+    read_soundly (inode_of scene script_file) run.list journal n k r legal.1 load listed
+    (path_there scene run (inode_of scene script_file) (newest_first journal) forms stood)
     (list_named scene ending run forms shown)

@@ -16,7 +16,7 @@ use Rattle.inode_events.specs.Callers.{caller_of}
 use Rattle.inode_events.specs.Checks.{last_check}
 use Rattle.inode_events.specs.Coverage.{ShowsContent, is_measuring, places_granted}
 use Rattle.inode_events.specs.Inode.{Inode}
-use Rattle.inode_events.specs.Past.{past}
+use Rattle.inode_events.specs.NewestFirst.{newest_first}
 use Rattle.inode_events.specs.Says.{place_of}
 use Rattle.inode_events.specs.State.{content}
 use Rattle.inode_events.specs.declared.deed.Deed.{Deed}
@@ -32,7 +32,7 @@ use Rattle.inode_events.specs.pages.Content.{bytes_at, most_bytes}
 use Rattle.shown_laws.specs.Places.{HasForms}
 use Rattle.shown_laws.specs.laws_of_journals.Executed.{IsUndisturbed, grant_event, is_check_of}
 use Rattle.shown_laws.specs.model.History.{Thought}
-use Rattle.shown_laws.specs.model.Scene.{Program, Scene, Station, inode_of}
+use Rattle.shown_laws.specs.model.Scene.{Program, Scene, ScriptFile, inode_of}
 use Rattle.shown_laws.specs.model.Served.{Run}
 use Rattle.shown_laws.specs.model.Shown.{IsShown}
 
@@ -83,7 +83,8 @@ pub record IsReadSoundly (inode : Inode) (list : List Entry) (journal : List Eve
   pub last : ℕ
   pub later : List Event
   pub before : List Event
-  pub closed : past journal ≡ later ++ call_event n k last (deed.Close file) told.Dropped ∷ before
+  pub closed : newest_first journal ≡ later
+      ++ call_event n k last (deed.Close file) told.Dropped ∷ before
   pub within : file < length before
   -- between the two there was no write or truncation of the inode, done or refused; the content was
   -- the same; and so were all facts of a file that is held as an execution
@@ -91,7 +92,8 @@ pub record IsReadSoundly (inode : Inode) (list : List Entry) (journal : List Eve
   -- the reply is that of a read of this content
   pub replied : r ≡ reply_with (bytes_at (content before) 0 most_bytes)
   -- no violation is told in the call's checks
-  pub quiet : (l : List Event) (e : Event) (q : List Event) (g : ℕ) → past journal ≡ l ++ e ∷ q
+  pub quiet : (l : List Event) (e : Event) (q : List Event) (g : ℕ)
+      → newest_first journal ≡ l ++ e ∷ q
       → is_of_call n k e ≡ true → is_check_of g e.deed ≡ true → e.told ≡ told.Quiet
   -- for each check of the file whose action measures, a later grant of the file names a place, and
   -- the entry there is no violation and has the digest of the content
@@ -101,7 +103,7 @@ pub record IsReadSoundly (inode : Inode) (list : List Entry) (journal : List Eve
       × ShowsContent inode list (content before) place)
   -- a grant of the call whose check measures names a place in the list
   pub measured : (l q : List Event) (who : Who) (d : Deed) (grant : Grant) (g : ℕ)
-      → past journal ≡ l ++ grant_event who d grant ∷ q
+      → newest_first journal ≡ l ++ grant_event who d grant ∷ q
       → is_of_call n k (grant_event who d grant) ≡ true → granted_file d ≡ Some g
       → (last_check g q).action.measure ≡ true
       → (placed : Placed) × (grant.placed ≡ Some placed)
@@ -111,13 +113,13 @@ pub record IsReadSoundly (inode : Inode) (list : List Entry) (journal : List Eve
       → ShowsContent inode list (content before) (place_of placed)
   -- each grant of the call admits the file
   pub admitted : (l q : List Event) (who : Who) (d : Deed) (grant : Grant) (g : ℕ)
-      → past journal ≡ l ++ grant_event who d grant ∷ q
+      → newest_first journal ≡ l ++ grant_event who d grant ∷ q
       → is_of_call n k (grant_event who d grant) ≡ true → granted_file d ≡ Some g
       → grant.admitted ≡ true
   -- in mode enforce, if the action of the call's check appraises, the file with that content fits
   -- at the step of the grant
   pub fitting : inode.settings.mode ≡ Enforce → (l q : List Event) (who : Who) (d : Deed)
-      (grant : Grant) (g : ℕ) → past journal ≡ l ++ grant_event who d grant ∷ q
+      (grant : Grant) (g : ℕ) → newest_first journal ≡ l ++ grant_event who d grant ∷ q
       → is_of_call n k (grant_event who d grant) ≡ true → granted_file d ≡ Some g
       → (last_check g q).action.appraise ≡ true
       → (fits inode (last_check g q).action q ≡ true) × (content q ≡ content before)
@@ -127,12 +129,12 @@ pub record IsReadSoundly (inode : Inode) (list : List Entry) (journal : List Eve
 -- each module and firmware call that was answered with `ok` has read its file soundly
 abbrev pub AreKernelReadsSound : Scene → Run → Type 0
 AreKernelReadsSound scene run =
-    (n k i : ℕ) (p : Program) (c : Call) (t : Thought) (r : Reply) (station : Station)
+    (n k i : ℕ) (p : Program) (c : Call) (t : Thought) (r : Reply) (script_file : ScriptFile)
     (journal : List Event)
     → slice_get scene.programs n ≡ Some p → slice_get p.calls k ≡ Some c → read_by c ≡ Some i
     → slice_get run.thoughts n ≡ Some t → slice_get t.replies k ≡ Some r → is_done r ≡ true
-    → slice_get scene.stations i ≡ Some station → slice_get run.journals i ≡ Some journal
-    → IsReadSoundly (inode_of scene station) run.list journal n k r
+    → slice_get scene.script_files i ≡ Some script_file → slice_get run.journals i ≡ Some journal
+    → IsReadSoundly (inode_of scene script_file) run.list journal n k r
 
 -- so it is in every shown run
 abbrev pub KernelReadsSoundly : Type 0

@@ -5,14 +5,14 @@ use Rattle.std.proofs.Math.Bool.{or-false}
 use Rattle.std.proofs.lemmas.Bool.{eqb-true, or_cases, true≢false}
 use Rattle.std.proofs.lemmas.Option.{none-some, same_Some}
 use Rattle.order_outcomes.specs.Calls.{listed_in, verdict_in}
-use Rattle.order_outcomes.specs.Examples.{boot, station}
+use Rattle.order_outcomes.specs.Examples.{boot, script_file}
 use Rattle.order_outcomes.specs.declared.lines.Kind.TheVariants.{Violations}
 use Rattle.order_outcomes.specs.reports.model.History.{Thought}
-use Rattle.order_outcomes.specs.reports.model.Scene.{Station, inode_of}
+use Rattle.order_outcomes.specs.reports.model.Scene.{ScriptFile, inode_of}
 use Rattle.order_outcomes.specs.reports.model.Turns.{Moment, journal_at, newborn}
 use Rattle.order_outcomes.specs.reports.model.events.Checks.{last_check}
 use Rattle.order_outcomes.specs.reports.model.events.Files.{held, readers as readers_in}
-use Rattle.order_outcomes.specs.reports.model.events.Past.{past}
+use Rattle.order_outcomes.specs.reports.model.events.NewestFirst.{newest_first}
 use Rattle.order_outcomes.specs.reports.model.events.State.{content, metadata}
 use Rattle.order_outcomes.specs.reports.model.events.declared.deed.Change.TheVariants as change
 use Rattle.order_outcomes.specs.reports.model.events.declared.deed.Deed.TheVariants as deed
@@ -61,8 +61,8 @@ same_if true e = refl
 same_if false e = e
 
 -- the checks have no action, like that of a file without a check
-sound_0 : IsSound (inode_of readers station) first_0.state.list (past journal_0)
-unfolding past
+sound_0 : IsSound (inode_of readers script_file) first_0.state.list (newest_first journal_0)
+unfolding newest_first
 sound_0 = record {
   files = λ file le. same_if (3 == file) (same_if (1 == file) refl);
   collection = tt;
@@ -71,8 +71,8 @@ sound_0 = record {
 }
 
 -- the same of the other journal
-sound_1 : IsSound (inode_of readers station) first_0.state.list (past journal_1)
-unfolding past
+sound_1 : IsSound (inode_of readers script_file) first_0.state.list (newest_first journal_1)
+unfolding newest_first
 sound_1 = record {
   files = λ file le. same_if (3 == file) (same_if (1 == file) refl);
   collection = tt;
@@ -83,7 +83,7 @@ sound_1 = record {
 -- what holds of the three files that are used holds of each
 each : (P : ℕ → Type 0) → P 0 → P 1 → P 3 → (file : ℕ)
     → is_used first_0.thoughts 0 file ≡ true → P file
-unfolding past
+unfolding newest_first
 each P none one three file is =
     ⊎_elim (λ e. subst P (sym (eqb-true file 0 e)) none)
     (λ more. ⊎_elim
@@ -107,7 +107,7 @@ no_read false x e = e
 
 -- no call was told a verdict
 told_0 : (task n : ℕ) → verdict_in task n journal_0 ≡ None
-unfolding past
+unfolding newest_first
 told_0 task n =
     no_verdict (0 == task && 0 == n) (no_verdict (0 == task && 0 == n)
     (no_verdict (0 == task && 0 == n) (no_verdict (1 == task && 0 == n)
@@ -115,23 +115,23 @@ told_0 task n =
 
 -- nor in the other moment
 told_1 : (task n : ℕ) → verdict_in task n journal_1 ≡ None
-unfolding past
+unfolding newest_first
 told_1 task n =
     no_verdict (0 == task && 0 == n) (no_verdict (1 == task && 0 == n)
     (no_verdict (1 == task && 0 == n) (no_verdict (0 == task && 0 == n)
     (no_verdict (0 == task && 0 == n) refl))))
 
 -- no call has read
-listed_0 : (task n : ℕ) → listed_in first_0.state.list task n (past journal_0) ≡ None
-unfolding past
+listed_0 : (task n : ℕ) → listed_in first_0.state.list task n (newest_first journal_0) ≡ None
+unfolding newest_first
 listed_0 task n =
     no_read (1 == task && 0 == n) _ (no_read (1 == task && 0 == n) _
     (no_read (0 == task && 0 == n) _ (no_read (0 == task && 0 == n) _
     (no_read (0 == task && 0 == n) _ refl))))
 
 -- nor in the other moment
-listed_1 : (task n : ℕ) → listed_in first_0.state.list task n (past journal_1) ≡ None
-unfolding past
+listed_1 : (task n : ℕ) → listed_in first_0.state.list task n (newest_first journal_1) ≡ None
+unfolding newest_first
 listed_1 task n =
     no_read (0 == task && 0 == n) _ (no_read (0 == task && 0 == n) _
     (no_read (1 == task && 0 == n) _ (no_read (1 == task && 0 == n) _
@@ -147,19 +147,19 @@ apart f g is is2 =
     (each (λ y. (swapped 3 == swapped y) ≡ (3 == y)) refl refl refl g is2) f is
 
 -- the journals are alike under these names
-inode : IsInodeAlike (inode_of readers station) first_0.state.list first_1.state.list
+inode : IsInodeAlike (inode_of readers script_file) first_0.state.list first_1.state.list
     (is_used first_0.thoughts 0) swapped journal_0 journal_1
-unfolding past
+unfolding newest_first
 inode = record {
   sound = sound_0;
   sound2 = sound_1;
   below = each (λ file. file < length journal_0) (omega arith) (omega arith) (omega arith);
   below2 = each (λ file. swapped file < length journal_1) (omega arith) (omega arith) (omega arith);
   apart = apart;
-  how = each (λ file. held (swapped file) (past journal_1) ≡ held file (past journal_0)) refl refl
-      refl;
-  checks = each (λ file. last_check (swapped file) (past journal_1)
-      ≡ last_check file (past journal_0)) refl refl refl;
+  how = each (λ file. held (swapped file) (newest_first journal_1)
+      ≡ held file (newest_first journal_0)) refl refl refl;
+  checks = each (λ file. last_check (swapped file) (newest_first journal_1)
+      ≡ last_check file (newest_first journal_0)) refl refl refl;
   present_in = refl;
   new_in = refl;
   versions_in = refl;
@@ -186,24 +186,25 @@ none zero = refl
 none (suc i) = refl
 
 -- and so do files that aren't in the scene
-elsewhere : (i : ℕ) → slice_get readers.stations i ≡ None → (file : ℕ) → names i file ≡ file
-elsewhere zero e file = absurd (none-some station (sym e))
+elsewhere : (i : ℕ) → slice_get readers.script_files i ≡ None → (file : ℕ) → names i file ≡ file
+elsewhere zero e file = absurd (none-some script_file (sym e))
 elsewhere (suc i) e file = refl
 
 -- the file is the only one
-inodes : (i : ℕ) (s : Station) → slice_get readers.stations i ≡ Some s
+inodes : (i : ℕ) (s : ScriptFile) → slice_get readers.script_files i ≡ Some s
     → IsInodeAlike (inode_of readers s) first_0.state.list first_1.state.list
     (is_used first_0.thoughts i) (names i)
     (journal_at first_0.state i) (journal_at first_1.state i)
-unfolding past
+unfolding newest_first
 inodes zero s e =
-    subst (λ (x : Station). IsInodeAlike (inode_of readers x) first_0.state.list first_1.state.list
-    (is_used first_0.thoughts 0) swapped journal_0 journal_1) (same_Some station s e) inode
+    subst (λ (x : ScriptFile). IsInodeAlike (inode_of readers x) first_0.state.list
+    first_1.state.list
+    (is_used first_0.thoughts 0) swapped journal_0 journal_1) (same_Some script_file s e) inode
 inodes (suc i) s e = absurd (none-some s e)
 
 -- both moments are alike
 either_first : IsAlikeBy readers names first_0 first_1
-unfolding past
+unfolding newest_first
 either_first = record {
   none = none;
   elsewhere = elsewhere;
@@ -228,44 +229,44 @@ in_call (t ∷ ts) = is_some t.mind.progress
 
 -- the first task has its answer in one of them
 only_one : IsAlike readers (after (0 ∷ 0 ∷ [])) (after (1 ∷ 1 ∷ [])) → ⊥
-unfolding past
+unfolding newest_first
 only_one (inl e) = let same = ap (λ (m : Moment). answered m.thoughts) e in omega (arith, same)
 only_one (inr x) = let same = ap answered x.1.thoughts in omega (arith, same)
 
 -- the first task is in a call in one of them
 further : IsOther (after (0 ∷ []))
-unfolding past
+unfolding newest_first
 further (inl e) = true≢false (sym (ap (λ (m : Moment). in_call m.thoughts) e))
 further (inr x) = true≢false (ap in_call x.1.thoughts)
 
 -- the file has a reader in one of them
 other_count : IsOther (with_event (deed.Count (how.Read false)) told.Held)
-unfolding past
+unfolding newest_first
 other_count (inl e) =
-    let same = ap (λ (m : Moment). readers_in (past (journal_at m.state 0))) e in
+    let same = ap (λ (m : Moment). readers_in (newest_first (journal_at m.state 0))) e in
     omega (arith, same)
 other_count (inr x) =
-    let same = (x.1.inodes 0 station refl).readers_in in
+    let same = (x.1.inodes 0 script_file refl).readers_in in
     omega (arith, same)
 
 -- the content has another length
 other_content : IsOther (with_event (deed.Trunc 0 2) told.Done)
-unfolding past
+unfolding newest_first
 other_content (inl e) =
-    let same = ap (λ (m : Moment). length (content (past (journal_at m.state 0)))) e in
+    let same = ap (λ (m : Moment). length (content (newest_first (journal_at m.state 0)))) e in
     omega (arith, same)
 other_content (inr x) =
-    let same = ap length (x.1.inodes 0 station refl).content_in in
+    let same = ap length (x.1.inodes 0 script_file refl).content_in in
     omega (arith, same)
 
 -- the mode is another
 other_mode : IsOther (with_event (deed.SetMeta (change.Mode 0)) told.Done)
-unfolding past
+unfolding newest_first
 other_mode (inl e) =
-    let same = ap (λ (m : Moment). (metadata (past (journal_at m.state 0))).mode) e in
+    let same = ap (λ (m : Moment). (metadata (newest_first (journal_at m.state 0))).mode) e in
     omega (arith, same)
 other_mode (inr x) =
-    let same = ap (λ (m : Meta). m.mode) (x.1.inodes 0 station refl).metadata_in in
+    let same = ap (λ (m : Meta). m.mode) (x.1.inodes 0 script_file refl).metadata_in in
     omega (arith, same)
 
 -- an outcome has a line more
@@ -317,16 +318,16 @@ other_order = record {
   semaphores = λ sem. refl;
 }
   where
-    inodes_two : (i : ℕ) (s : Station) → slice_get readers.stations i ≡ Some s
+    inodes_two : (i : ℕ) (s : ScriptFile) → slice_get readers.script_files i ≡ Some s
         → IsInodeAlike (inode_of readers s) (boot ∷ two) (boot ∷ three)
         (is_used (with_entries two).thoughts i) (own i)
         (journal_at (with_entries two).state i) (journal_at (with_entries three).state i)
     inodes_two zero s e =
-        subst (λ (x : Station). IsInodeAlike (inode_of readers x) (boot ∷ two) (boot ∷ three)
-        (is_used (with_entries two).thoughts 0) (own 0) (newborn station) (newborn station))
-        (same_Some station s e)
-        (birth_alike (inode_of readers station) (boot ∷ two) (boot ∷ three)
-        (is_used (with_entries two).thoughts 0) station
+        subst (λ (x : ScriptFile). IsInodeAlike (inode_of readers x) (boot ∷ two) (boot ∷ three)
+        (is_used (with_entries two).thoughts 0) (own 0) (newborn script_file) (newborn script_file))
+        (same_Some script_file s e)
+        (birth_alike (inode_of readers script_file) (boot ∷ two) (boot ∷ three)
+        (is_used (with_entries two).thoughts 0) script_file
         (λ file u. start_used 0 file readers.programs u))
     inodes_two (suc i) s e = absurd (none-some s e)
 

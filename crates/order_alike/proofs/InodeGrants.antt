@@ -4,7 +4,7 @@ use Rattle.order_outcomes.specs.reports.model.events.Checks.{Check, appraises, i
 use Rattle.order_outcomes.specs.reports.model.events.Grants.{admits, grant_of, granted, is_mend, mend_of, mends, placed_if_measured, verdict_for}
 use Rattle.order_outcomes.specs.reports.model.events.Inode.{Inode}
 use Rattle.order_outcomes.specs.reports.model.events.Integrity.{label, label_in, status}
-use Rattle.order_outcomes.specs.reports.model.events.Past.{past}
+use Rattle.order_outcomes.specs.reports.model.events.NewestFirst.{newest_first}
 use Rattle.order_outcomes.specs.reports.model.events.State.{content, new}
 use Rattle.order_outcomes.specs.reports.model.events.Verdicts.{judged, key_of}
 use Rattle.order_outcomes.specs.reports.model.events.declared.told.Event.{Event}
@@ -38,17 +38,19 @@ module _ (inode : Inode) (list list2 : List Entry) (used : ℕ → Bool) (r : �
     (s : IsInodeAlike inode list list2 used r j j2) where
   -- a digest is judged alike
   judged_same : (need : Need) (algos : Option AlgoSet) (digest : Digest)
-      → judged inode need algos digest (past j2) ≡ judged inode need algos digest (past j)
+      → judged inode need algos digest (newest_first j2)
+      ≡ judged inode need algos digest (newest_first j)
   judged_same need algos digest =
       ap₂ (λ (a : List Pair) (m : Meta). judge need algos (label_in a)
-      (evm_status inode.settings.evm a m) digest inode.settings.hash (length (content (past j2)))
-      (new (past j2))) s.attributes_in s.metadata_in
-      ∙ ap₂ (λ (c : List ℕ) (n : Bool). judge need algos (label inode (past j))
-      (status inode (past j)) digest inode.settings.hash (length c) n) s.content_in s.new_in
+      (evm_status inode.settings.evm a m) digest inode.settings.hash
+      (length (content (newest_first j2))) (new (newest_first j2))) s.attributes_in s.metadata_in
+      ∙ ap₂ (λ (c : List ℕ) (n : Bool). judge need algos (label inode (newest_first j))
+      (status inode (newest_first j)) digest inode.settings.hash (length c) n) s.content_in s.new_in
 
   -- its verdict is the one in force or the same fresh one
   verdict_same : (check : Check) (digest : Digest)
-      → verdict_for inode check digest (past j2) ≡ verdict_for inode check digest (past j)
+      → verdict_for inode check digest (newest_first j2)
+      ≡ verdict_for inode check digest (newest_first j)
   verdict_same check digest =
       ap₂ (λ (v : Option Verdict) (fresh : Verdict). cond (appraises inode check.action)
       (Some (unwrap_or v fresh)) None) (s.verdicts (key_of check))
@@ -56,40 +58,44 @@ module _ (inode : Inode) (list list2 : List Entry) (used : ℕ → Bool) (r : �
 
   -- fix mode writes the same attributes
   mend_same : (action : Action) (digest : Digest) (verdict : Verdict)
-      → mend_of inode action digest verdict (past j2)
-      ≡ mend_of inode action digest verdict (past j)
+      → mend_of inode action digest verdict (newest_first j2)
+      ≡ mend_of inode action digest verdict (newest_first j)
   mend_same action digest verdict =
       ap₂ (λ (a : List Pair) (m : Meta). mend_for verdict (judge action.need action.algos
-      (label_in a) evm.Pass digest inode.settings.hash (length (content (past j2)))
-      (new (past j2))) (evm_status inode.settings.evm a m)
+      (label_in a) evm.Pass digest inode.settings.hash (length (content (newest_first j2)))
+      (new (newest_first j2))) (evm_status inode.settings.evm a m)
       (read_label (label_in a) inode.settings.hash)) s.attributes_in s.metadata_in
       ∙ ap₂ (λ (c : List ℕ) (n : Bool). mend_for verdict (judge action.need action.algos
-      (label inode (past j)) evm.Pass digest inode.settings.hash (length c) n)
-      (status inode (past j)) (read_label (label inode (past j)) inode.settings.hash))
-      s.content_in s.new_in
+      (label inode (newest_first j)) evm.Pass digest inode.settings.hash (length c) n)
+      (status inode (newest_first j))
+      (read_label (label inode (newest_first j)) inode.settings.hash)) s.content_in s.new_in
 
   -- if it writes any
   mends_same : (action : Action) (digest : Digest) (verdict : Option Verdict)
-      → mends inode action digest verdict (past j2) ≡ mends inode action digest verdict (past j)
+      → mends inode action digest verdict (newest_first j2)
+      ≡ mends inode action digest verdict (newest_first j)
   mends_same action digest None = refl
   mends_same action digest (Some verdict) =
       ap (λ (m : Mend). is_fix inode.settings.mode && is_mend m) (mend_same action digest verdict)
 
   -- the grant for a check
   granted_same : (check : Check) (placed : Placed) (digest : Digest)
-      → granted inode check placed digest (verdict_for inode check digest (past j2)) (past j2)
-      ≡ granted inode check placed digest (verdict_for inode check digest (past j)) (past j)
+      → granted inode check placed digest (verdict_for inode check digest (newest_first j2))
+      (newest_first j2)
+      ≡ granted inode check placed digest (verdict_for inode check digest (newest_first j))
+      (newest_first j)
   granted_same check placed digest =
-      ap (λ (v : Option Verdict). granted inode check placed digest v (past j2))
+      ap (λ (v : Option Verdict). granted inode check placed digest v (newest_first j2))
       (verdict_same check digest)
       ∙ ap (λ (b : Bool). grant_with inode check placed
-      (verdict_for inode check digest (past j)) b)
-      (mends_same check.action digest (verdict_for inode check digest (past j)))
+      (verdict_for inode check digest (newest_first j)) b)
+      (mends_same check.action digest (verdict_for inode check digest (newest_first j)))
 
   -- the grant of a file
   pub grant_same : (file : ℕ) → used file ≡ true → (placed : Placed) (digest : Digest)
-      → grant_of inode (r file) placed digest (past j2) ≡ grant_of inode file placed digest (past j)
+      → grant_of inode (r file) placed digest (newest_first j2)
+      ≡ grant_of inode file placed digest (newest_first j)
   grant_same file u placed digest =
-      ap (λ (c : Check). granted inode c placed digest (verdict_for inode c digest (past j2))
-      (past j2)) (s.checks file u)
-      ∙ granted_same (last_check file (past j)) placed digest
+      ap (λ (c : Check). granted inode c placed digest
+      (verdict_for inode c digest (newest_first j2)) (newest_first j2)) (s.checks file u)
+      ∙ granted_same (last_check file (newest_first j)) placed digest

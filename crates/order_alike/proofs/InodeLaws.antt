@@ -5,7 +5,7 @@ use Rattle.order_outcomes.specs.reports.model.History.{event}
 use Rattle.order_outcomes.specs.reports.model.events.Asked.{asked, list_after, outcome, placed_for}
 use Rattle.order_outcomes.specs.reports.model.events.Files.{counted}
 use Rattle.order_outcomes.specs.reports.model.events.Inode.{Inode}
-use Rattle.order_outcomes.specs.reports.model.events.Past.{past}
+use Rattle.order_outcomes.specs.reports.model.events.NewestFirst.{newest_first}
 use Rattle.order_outcomes.specs.reports.model.events.declared.deed.Deed.{Deed}
 use Rattle.order_outcomes.specs.reports.model.events.declared.deed.Deed.TheVariants as deed
 use Rattle.order_outcomes.specs.reports.model.events.declared.told.Event.{Event}
@@ -58,21 +58,21 @@ pub record InodeLaws : Type 0 where
   pub outcome_same : (inode : Inode) (list list2 : List Entry) (used : ℕ → Bool) (r : ℕ → ℕ)
       (j j2 : List Event) (d : Deed) → IsInodeAlike inode list list2 used r j j2
       → IsUsed used (file_in d)
-      → outcome inode list2 (deed_named r d) (past j2)
-      ≡ option_map (told_with (placed_for list2 (asked inode d (past j))))
-      (outcome inode list d (past j))
+      → outcome inode list2 (deed_named r d) (newest_first j2)
+      ≡ option_map (told_with (placed_for list2 (asked inode d (newest_first j))))
+      (outcome inode list d (newest_first j))
   pub asked_same : (inode : Inode) (list list2 : List Entry) (used : ℕ → Bool) (r : ℕ → ℕ)
       (j j2 : List Event) (d : Deed) → IsInodeAlike inode list list2 used r j j2
       → IsUsed used (file_in d)
-      → asked inode (deed_named r d) (past j2) ≡ asked inode d (past j)
+      → asked inode (deed_named r d) (newest_first j2) ≡ asked inode d (newest_first j)
   -- after it the journals are alike; a file that it counts may be used then
   pub grown : (inode : Inode) (list list2 : List Entry) (used : ℕ → Bool) (r : ℕ → ℕ)
       (j j2 : List Event) (d : Deed) (t : Told) (who : Who) (used2 : ℕ → Bool)
       → IsInodeAlike inode list list2 used r j j2 → AreListsAlike list list2
-      → IsUsed used (file_in d) → outcome inode list d (past j) ≡ Some t
+      → IsUsed used (file_in d) → outcome inode list d (newest_first j) ≡ Some t
       → ((file : ℕ) → used2 file ≡ true
       → (used file ≡ true) ⊎ ((file ≡ length j) × (is_some (counted d t) ≡ true)))
-      → let asks = asked inode d (past j) in
+      → let asks = asked inode d (newest_first j) in
       let t2 = told_with (placed_for list2 asks) t in
       IsInodeAlike inode (list_after list asks (Some t)) (list_after list2 asks (Some t2)) used2
       (named_after r (length j) (length j2)) (j ++ event who d t ∷ [])

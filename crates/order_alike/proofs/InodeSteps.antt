@@ -8,7 +8,7 @@ use Rattle.order_outcomes.specs.reports.model.events.Inode.{Inode}
 use Rattle.order_outcomes.specs.reports.model.events.Integrity.{Collection, Digests, collecting, digest_from, digests_of, in_force, label, label_in}
 use Rattle.order_outcomes.specs.reports.model.events.Listing.{signature_in, template_for}
 use Rattle.order_outcomes.specs.reports.model.events.Marks.{is_label_due, must_measure}
-use Rattle.order_outcomes.specs.reports.model.events.Past.{past}
+use Rattle.order_outcomes.specs.reports.model.events.NewestFirst.{newest_first}
 use Rattle.order_outcomes.specs.reports.model.events.Says.{check_told, chunk_told, close_finish_told, close_take_told, count_told, finish_told, place_of, read_told, says, set_attr_told, set_meta_told, take_told, unless_collecting}
 use Rattle.order_outcomes.specs.reports.model.events.State.{content, present}
 use Rattle.order_outcomes.specs.reports.model.events.declared.deed.Deed.{Deed}
@@ -73,135 +73,147 @@ module _ (inode : Inode) (list list2 : List Entry) (used : ℕ → Bool) (r : �
   -- ---- the entry
 
   -- a collection is open in both, or in neither
-  busy_same : is_some (collecting inode (past j2)) ≡ is_some (collecting inode (past j))
+  busy_same : is_some (collecting inode (newest_first j2))
+      ≡ is_some (collecting inode (newest_first j))
   busy_same =
-      sym (some_map (collection_seen (past j2)) (collecting inode (past j2)))
+      sym (some_map (collection_seen (newest_first j2)) (collecting inode (newest_first j2)))
       ∙ ap (λ (o : Option CollectionSeen). is_some o) s.collection
-      ∙ some_map (collection_seen (past j)) (collecting inode (past j))
+      ∙ some_map (collection_seen (newest_first j)) (collecting inode (newest_first j))
 
   -- the same entry measures the file
   measured_same : (file : ℕ) → used file ≡ true → (o2 o : Option Digests)
-      → option_map (digests_seen (past j2)) o2 ≡ option_map (digests_seen (past j)) o
-      → measured_if (last_check (r file) (past j2)).action.measure inode (r file) o2 (past j2)
-      ≡ measured_if (last_check file (past j)).action.measure inode file o (past j)
+      → option_map (digests_seen (newest_first j2)) o2
+      ≡ option_map (digests_seen (newest_first j)) o
+      → measured_if (last_check (r file) (newest_first j2)).action.measure inode (r file) o2
+      (newest_first j2)
+      ≡ measured_if (last_check file (newest_first j)).action.measure inode file o (newest_first j)
   measured_same file u o2 o h =
-      measured_seen (last_check (r file) (past j2)).action.measure inode (r file) o2 (past j2)
-      ∙ ap (λ (c : Check). measured_by c.action.measure inode c (label inode (past j2))
-      (option_map (digests_seen (past j2)) o2)) (s.checks file u)
+      measured_seen (last_check (r file) (newest_first j2)).action.measure inode (r file) o2
+      (newest_first j2)
+      ∙ ap (λ (c : Check). measured_by c.action.measure inode c (label inode (newest_first j2))
+      (option_map (digests_seen (newest_first j2)) o2)) (s.checks file u)
       ∙ ap₂ (λ (a : List Pair) (d : Option DigestsSeen). measured_by
-      (last_check file (past j)).action.measure inode (last_check file (past j)) (label_in a) d)
-      s.attributes_in h
-      ∙ sym (measured_seen (last_check file (past j)).action.measure inode file o (past j))
+      (last_check file (newest_first j)).action.measure inode (last_check file (newest_first j))
+      (label_in a) d) s.attributes_in h
+      ∙ sym (measured_seen (last_check file (newest_first j)).action.measure inode file o
+      (newest_first j))
 
   -- the digests of both collections
-  given_both : option_map (digests_seen (past j2))
-      (option_map digests_of (collecting inode (past j2)))
-      ≡ option_map (digests_seen (past j)) (option_map digests_of (collecting inode (past j)))
+  given_both : option_map (digests_seen (newest_first j2))
+      (option_map digests_of (collecting inode (newest_first j2)))
+      ≡ option_map (digests_seen (newest_first j))
+      (option_map digests_of (collecting inode (newest_first j)))
   given_both =
-      given_in (past j2) (collecting inode (past j2))
+      given_in (newest_first j2) (collecting inode (newest_first j2))
       ∙ ap (λ (o : Option CollectionSeen). option_map given_seen o) s.collection
-      ∙ sym (given_in (past j) (collecting inode (past j)))
+      ∙ sym (given_in (newest_first j) (collecting inode (newest_first j)))
 
   -- a check finds the same violation
   violation_same : (file : ℕ) → used file ≡ true → (measures : Bool) (place : ℕ)
-      → check_told (is_writing (r file) (past j2)) measures (readers (past j2))
-      (writers (past j2)) (must_measure (past j2)) place
-      ≡ check_told (is_writing file (past j)) measures (readers (past j)) (writers (past j))
-      (must_measure (past j)) place
+      → check_told (is_writing (r file) (newest_first j2)) measures (readers (newest_first j2))
+      (writers (newest_first j2)) (must_measure (newest_first j2)) place
+      ≡ check_told (is_writing file (newest_first j)) measures (readers (newest_first j))
+      (writers (newest_first j)) (must_measure (newest_first j)) place
   violation_same file u measures place =
-      ap₂ (λ (w : Bool) (n : ℕ). check_told w measures n (writers (past j2))
-      (must_measure (past j2)) place) (writing_same inode list list2 used r j j2 s file u)
+      ap₂ (λ (w : Bool) (n : ℕ). check_told w measures n (writers (newest_first j2))
+      (must_measure (newest_first j2)) place) (writing_same inode list list2 used r j j2 s file u)
       s.readers_in
-      ∙ ap₂ (λ (n : ℕ) (m : Bool). check_told (is_writing file (past j)) measures
-      (readers (past j)) n m place) s.writers_in s.must_measure_in
+      ∙ ap₂ (λ (n : ℕ) (m : Bool). check_told (is_writing file (newest_first j)) measures
+      (readers (newest_first j)) n m place) s.writers_in s.must_measure_in
 
   -- the step asks for the same entry
   pub asked_alike : (d : Deed) → IsUsed used (file_in d)
-      → asked inode (deed_named r d) (past j2) ≡ asked inode d (past j)
+      → asked inode (deed_named r d) (newest_first j2) ≡ asked inode d (newest_first j)
   asked_alike (deed.Check file func action rules) u =
       ap (λ (t : Told). violation_in inode t) (violation_same file u action.measure 0)
   asked_alike (deed.Take file) u =
       ap₂ (λ (b : Bool) (e : Option Entry). cond b None e) busy_same
-      (measured_same file u (in_force inode (past j2)) (in_force inode (past j)) s.digests)
+      (measured_same file u (in_force inode (newest_first j2))
+      (in_force inode (newest_first j)) s.digests)
   asked_alike (deed.Finish file) u =
-      measured_same file u (option_map digests_of (collecting inode (past j2)))
-      (option_map digests_of (collecting inode (past j))) given_both
+      measured_same file u (option_map digests_of (collecting inode (newest_first j2)))
+      (option_map digests_of (collecting inode (newest_first j))) given_both
   asked_alike d u = refl
 
   -- ---- the outcome
 
   -- a step waits for the integrity mutex in both
   unless_same : (t2 t : Told) → t2 ≡ t
-      → unless_collecting (collecting inode (past j2)) t2
-      ≡ unless_collecting (collecting inode (past j)) t
+      → unless_collecting (collecting inode (newest_first j2)) t2
+      ≡ unless_collecting (collecting inode (newest_first j)) t
   unless_same t2 t h =
-      unless_some (collecting inode (past j2)) t2
+      unless_some (collecting inode (newest_first j2)) t2
       ∙ ap₂ (λ (b : Bool) (x : Told). cond b None (Some x)) busy_same h
-      ∙ sym (unless_some (collecting inode (past j)) t)
+      ∙ sym (unless_some (collecting inode (newest_first j)) t)
 
   -- a chunk
-  chunk_same : chunk_told (content (past j2)) (collecting inode (past j2))
-      ≡ chunk_told (content (past j)) (collecting inode (past j))
+  chunk_same : chunk_told (content (newest_first j2)) (collecting inode (newest_first j2))
+      ≡ chunk_told (content (newest_first j)) (collecting inode (newest_first j))
   chunk_same =
-      chunk_seen (past j2) (content (past j2)) (collecting inode (past j2))
+      chunk_seen (newest_first j2) (content (newest_first j2)) (collecting inode (newest_first j2))
       ∙ ap₂ (λ (c : List ℕ) (o : Option CollectionSeen). chunk_by c o) s.content_in s.collection
-      ∙ sym (chunk_seen (past j) (content (past j)) (collecting inode (past j)))
+      ∙ sym (chunk_seen (newest_first j) (content (newest_first j))
+      (collecting inode (newest_first j)))
 
   -- a label is due in both
-  due_same : is_label_due inode (past j2) ≡ is_label_due inode (past j)
+  due_same : is_label_due inode (newest_first j2) ≡ is_label_due inode (newest_first j)
   due_same = rw (s.update_in, s.attributes_in, s.new_in, s.versions_in, s.modified)
 
   -- a change of attributes
   set_attr_same : (name : List ℕ) (bytes : Option (List ℕ)) (admin : Bool)
-      → set_attr_told inode name bytes admin (past j2)
-      ≡ set_attr_told inode name bytes admin (past j)
+      → set_attr_told inode name bytes admin (newest_first j2)
+      ≡ set_attr_told inode name bytes admin (newest_first j)
   set_attr_same name bytes admin = rw (s.present_in, s.attributes_in, s.metadata_in, s.new_in)
 
   -- a change of mode or owner
-  set_meta_same : set_meta_told inode (past j2) ≡ set_meta_told inode (past j)
+  set_meta_same : set_meta_told inode (newest_first j2) ≡ set_meta_told inode (newest_first j)
   set_meta_same = rw (s.present_in, s.attributes_in, s.metadata_in)
 
   module _ (file : ℕ) (u : used file ≡ true) (placed : Placed) where
     -- a take
     take_same : (o2 o : Option Digests)
         → option_map (λ (f : Digests). f.digest) o2 ≡ option_map (λ (f : Digests). f.digest) o
-        → take_told inode (r file) placed o2 (past j2) ≡ take_told inode file placed o (past j)
+        → take_told inode (r file) placed o2 (newest_first j2)
+        ≡ take_told inode file placed o (newest_first j)
     take_same None None h = refl
     take_same None (Some f) h = cc
     take_same (Some f2) None h = cc
     take_same (Some f2) (Some f) h =
         let same : f2.digest ≡ f.digest = cc in
-        ap (λ (d : Digest). told.Grant (grant_of inode (r file) placed d (past j2))) same
+        ap (λ (d : Digest). told.Grant (grant_of inode (r file) placed d (newest_first j2))) same
         ∙ ap told.Grant (grant_same inode list list2 used r j j2 s file u placed f.digest)
 
     -- a finish
     finish_same : (o2 o : Option Collection)
         → option_map digest_from o2 ≡ option_map digest_from o
-        → finish_told inode (r file) placed o2 (past j2) ≡ finish_told inode file placed o (past j)
+        → finish_told inode (r file) placed o2 (newest_first j2)
+        ≡ finish_told inode file placed o (newest_first j)
     finish_same None None h = refl
     finish_same None (Some c) h = cc
     finish_same (Some c2) None h = cc
     finish_same (Some c2) (Some c) h =
         let same : digest_from c2 ≡ digest_from c = cc in
-        ap (λ (d : Digest). Some (told.Grant (grant_of inode (r file) placed d (past j2)))) same
-        ∙ ap (λ (g : Grant). Some (told.Grant g))
+        ap (λ (d : Digest). Some (told.Grant (grant_of inode (r file) placed d (newest_first j2))))
+        same ∙ ap (λ (g : Grant). Some (told.Grant g))
         (grant_same inode list list2 used r j j2 s file u placed (digest_from c))
 
   -- the outcome for one reply of the list
   says_alike : (placed : Placed) (d : Deed) → IsUsed used (file_in d)
-      → says inode (past j2) placed (deed_named r d) ≡ says inode (past j) placed d
+      → says inode (newest_first j2) placed (deed_named r d) ≡ says inode (newest_first j) placed d
   says_alike placed (deed.Count how) u =
-      ap (λ (b : Bool). Some (count_told how b (writers (past j2)) (execs (past j2)))) s.present_in
-      ∙ ap₂ (λ (w e : ℕ). Some (count_told how (present (past j)) w e)) s.writers_in s.execs_in
+      ap (λ (b : Bool). Some
+      (count_told how b (writers (newest_first j2)) (execs (newest_first j2)))) s.present_in
+      ∙ ap₂ (λ (w e : ℕ). Some (count_told how (present (newest_first j)) w e))
+      s.writers_in s.execs_in
   says_alike placed (deed.Check file func action rules) u =
       ap (λ (t : Told). Some t) (violation_same file u action.measure (place_of placed))
   says_alike placed (deed.Take file) u =
-      unless_same _ _ (take_same file u placed (in_force inode (past j2))
-      (in_force inode (past j)) (chosen_same inode list list2 used r j j2 s))
+      unless_same _ _ (take_same file u placed (in_force inode (newest_first j2))
+      (in_force inode (newest_first j)) (chosen_same inode list list2 used r j j2 s))
   says_alike placed (deed.Chunk file) u = chunk_same
   says_alike placed (deed.Finish file) u =
-      finish_same file u placed (collecting inode (past j2)) (collecting inode (past j))
-      (taken_same inode list list2 used r j j2 s)
+      finish_same file u placed (collecting inode (newest_first j2))
+      (collecting inode (newest_first j)) (taken_same inode list list2 used r j j2 s)
   says_alike placed (deed.Read file from len) u =
       ap (λ (c : List ℕ). Some (read_told (bytes_at c from len))) s.content_in
   says_alike placed (deed.SetAttr name bytes admin) u =
@@ -217,12 +229,12 @@ module _ (inode : Inode) (list list2 : List Entry) (used : ℕ → Bool) (r : �
 
   -- the step has the same outcome, but for the list's reply
   pub outcome_alike : (d : Deed) → IsUsed used (file_in d)
-      → outcome inode list2 (deed_named r d) (past j2)
-      ≡ option_map (told_with (placed_for list2 (asked inode d (past j))))
-      (outcome inode list d (past j))
+      → outcome inode list2 (deed_named r d) (newest_first j2)
+      ≡ option_map (told_with (placed_for list2 (asked inode d (newest_first j))))
+      (outcome inode list d (newest_first j))
   outcome_alike d u =
-      let q = placed_for list2 (asked inode d (past j)) in
-      ap (λ (e : Option Entry). says inode (past j2) (placed_for list2 e) (deed_named r d))
+      let q = placed_for list2 (asked inode d (newest_first j)) in
+      ap (λ (e : Option Entry). says inode (newest_first j2) (placed_for list2 e) (deed_named r d))
       (asked_alike d u)
       ∙ says_alike q d u
-      ∙ said_with q (placed_for list (asked inode d (past j))) inode (past j) d
+      ∙ said_with q (placed_for list (asked inode d (newest_first j))) inode (newest_first j) d

@@ -10,7 +10,7 @@ use Rattle.order_outcomes.specs.reports.model.events.Files.{counted, execs, file
 use Rattle.order_outcomes.specs.reports.model.events.Inode.{Inode}
 use Rattle.order_outcomes.specs.reports.model.events.Integrity.{attributes, collecting, in_force}
 use Rattle.order_outcomes.specs.reports.model.events.Marks.{must_measure, update}
-use Rattle.order_outcomes.specs.reports.model.events.Past.{past, past_more}
+use Rattle.order_outcomes.specs.reports.model.events.NewestFirst.{newest_first, past_more}
 use Rattle.order_outcomes.specs.reports.model.events.State.{content, content_after, metadata, metadata_after, modified_in, new, present, present_after, span, versions, versions_after}
 use Rattle.order_outcomes.specs.reports.model.events.Verdicts.{verdict_in_force}
 use Rattle.order_outcomes.specs.reports.model.events.declared.deed.Deed.{Deed}
@@ -37,8 +37,8 @@ use Rattle.order_alike.specs.Alike.{AreListsAlike, IsInodeAlike, IsSound, collec
 -- ---- names
 
 -- a journal and its past are equally long
-past_length : (journal : List Event) → length (past journal) ≡ length journal
-unfolding past
+past_length : (journal : List Event) → length (newest_first journal) ≡ length journal
+unfolding newest_first
 past_length journal = length-reverse journal
 
 -- a file that was there before the event keeps its name
@@ -54,18 +54,18 @@ name_new r n n2 file e = cond-true (file == n) n2 (r file) (eq-eqb file n e)
 module _ (inode : Inode) (list list2 more more2 : List Entry) (used : ℕ → Bool) (r : ℕ → ℕ)
     (j j2 : List Event) (s : IsInodeAlike inode list list2 used r j j2) where
   -- the same reads were listed if the lists get longer
-  reads_longer : (task n : ℕ) → listed_in (list2 ++ more2) task n (past j2)
-      ≡ listed_in (list ++ more) task n (past j)
+  reads_longer : (task n : ℕ) → listed_in (list2 ++ more2) task n (newest_first j2)
+      ≡ listed_in (list ++ more) task n (newest_first j)
   reads_longer task n =
-      listed_longer list2 more2 task n (past j2) s.sound2.places ∙ s.listed task n
-      ∙ sym (listed_longer list more task n (past j) s.sound.places)
+      listed_longer list2 more2 task n (newest_first j2) s.sound2.places ∙ s.listed task n
+      ∙ sym (listed_longer list more task n (newest_first j) s.sound.places)
 
   -- and the same bytes are shown
-  shown_longer : (bytes : List ℕ) → is_listed (list2 ++ more2) bytes (past j2)
-      ≡ is_listed (list ++ more) bytes (past j)
+  shown_longer : (bytes : List ℕ) → is_listed (list2 ++ more2) bytes (newest_first j2)
+      ≡ is_listed (list ++ more) bytes (newest_first j)
   shown_longer bytes =
-      is_listed_longer list2 more2 bytes (past j2) s.sound2.places ∙ s.shown bytes
-      ∙ sym (is_listed_longer list more bytes (past j) s.sound.places)
+      is_listed_longer list2 more2 bytes (newest_first j2) s.sound2.places ∙ s.shown bytes
+      ∙ sym (is_listed_longer list more bytes (newest_first j) s.sound.places)
 
 -- ---- one more event
 
@@ -73,7 +73,7 @@ module _ (inode : Inode) (list list2 : List Entry) (used : ℕ → Bool) (r : �
     (j j2 : List Event) (d : Deed) (t : Told) (who : Who) (used2 : ℕ → Bool)
     (s : IsInodeAlike inode list list2 used r j j2) (lists : AreListsAlike list list2)
     (u : IsUsed used (file_in d))
-    (says : outcome inode list d (past j) ≡ Some t)
+    (says : outcome inode list d (newest_first j) ≡ Some t)
     (uses : (file : ℕ) → used2 file ≡ true
     → (used file ≡ true) ⊎ ((file ≡ length j) × (is_some (counted d t) ≡ true))) where
   -- the event in each journal
@@ -82,7 +82,7 @@ module _ (inode : Inode) (list list2 : List Entry) (used : ℕ → Bool) (r : �
 
   -- the second list's reply
   abbrev reply2 : Placed
-  reply2 = placed_for list2 (asked inode d (past j))
+  reply2 = placed_for list2 (asked inode d (newest_first j))
 
   -- the outcome with it
   abbrev t2 : Told
@@ -101,10 +101,10 @@ module _ (inode : Inode) (list list2 : List Entry) (used : ℕ → Bool) (r : �
 
   -- the lists after the step
   abbrev after_list : List Entry
-  after_list = list_after list (asked inode d (past j)) (Some t)
+  after_list = list_after list (asked inode d (newest_first j)) (Some t)
 
   abbrev after_list2 : List Entry
-  after_list2 = list_after list2 (asked inode d (past j)) (Some t2)
+  after_list2 = list_after list2 (asked inode d (newest_first j)) (Some t2)
 
   -- the file was used before the event
   abbrev IsOld : ℕ → Type 0
@@ -115,41 +115,41 @@ module _ (inode : Inode) (list list2 : List Entry) (used : ℕ → Bool) (r : �
   IsNew file = (file ≡ length j) × (is_some (counted d t) ≡ true)
 
   -- what holds of the events, newest first, holds of both journals
-  on : (P : List Event → List Event → Type 0) → P (e ∷ past j) (e2 ∷ past j2)
-      → P (past (j ++ e ∷ [])) (past (j2 ++ e2 ∷ []))
+  on : (P : List Event → List Event → Type 0) → P (e ∷ newest_first j) (e2 ∷ newest_first j2)
+      → P (newest_first (j ++ e ∷ [])) (newest_first (j2 ++ e2 ∷ []))
   on P h =
-      subst (λ (y : List Event). P (past (j ++ e ∷ [])) y) (sym (past_more j2 e2))
-      (subst (λ (x : List Event). P x (e2 ∷ past j2)) (sym (past_more j e)) h)
+      subst (λ (y : List Event). P (newest_first (j ++ e ∷ [])) y) (sym (past_more j2 e2))
+      (subst (λ (x : List Event). P x (e2 ∷ newest_first j2)) (sym (past_more j e)) h)
 
   -- a list isn't shorter after the step
   not_shorter : (l : List Entry) (x : Told)
-      → length l ≤ length (list_after l (asked inode d (past j)) (Some x))
+      → length l ≤ length (list_after l (asked inode d (newest_first j)) (Some x))
   not_shorter l x =
-      let more = after_longer l (asked inode d (past j)) x in
+      let more = after_longer l (asked inode d (newest_first j)) x in
       omega (arith, length-append l more.0, ap (λ (y : List Entry). length y) more.1)
 
   -- the place of the outcome is in it
   placed : IsPlaced (length after_list) (place_told t)
-  placed = outcome_placed inode list d (past j) t says
+  placed = outcome_placed inode list d (newest_first j) t says
 
   -- and in the second list
   placed2 : IsPlaced (length after_list2) (place_told t2)
   placed2 =
-      let says2 : outcome inode list2 (deed_named r d) (past j2) ≡ Some t2
+      let says2 : outcome inode list2 (deed_named r d) (newest_first j2) ≡ Some t2
       = outcome_alike inode list list2 used r j j2 s d u
       ∙ ap (option_map (told_with reply2)) says in
       subst (λ (o : Option Entry). IsPlaced (length (list_after list2 o (Some t2))) (place_told t2))
       (asked_alike inode list list2 used r j j2 s d u)
-      (outcome_placed inode list2 (deed_named r d) (past j2) t2 says2)
+      (outcome_placed inode list2 (deed_named r d) (newest_first j2) t2 says2)
 
   -- ---- its files
 
   -- a file that was used was counted before the event
-  old_below : (file : ℕ) → IsOld file → file < length (past j)
+  old_below : (file : ℕ) → IsOld file → file < length (newest_first j)
   old_below file uf = let b = s.below file uf in omega (arith, past_length j, b)
 
   -- in both
-  old_below2 : (file : ℕ) → IsOld file → r file < length (past j2)
+  old_below2 : (file : ℕ) → IsOld file → r file < length (newest_first j2)
   old_below2 file uf = let b = s.below2 file uf in omega (arith, past_length j2, b)
 
   -- it keeps its name
@@ -157,7 +157,7 @@ module _ (inode : Inode) (list list2 : List Entry) (used : ℕ → Bool) (r : �
   keeps_name file uf = name_old r (length j) (length j2) file (s.below file uf)
 
   -- the file that the event counts has the event's place
-  new_name : (file : ℕ) → IsNew file → name file ≡ length (past j2)
+  new_name : (file : ℕ) → IsNew file → name file ≡ length (newest_first j2)
   new_name file is = name_new r (length j) (length j2) file is.0 ∙ sym (past_length j2)
 
   -- files are counted before the end
@@ -198,140 +198,143 @@ module _ (inode : Inode) (list list2 : List Entry) (used : ℕ → Bool) (r : �
 
   -- files are held alike
   how_after : (file : ℕ) → IsOld file ⊎ IsNew file
-      → held (name file) (e3 ∷ past j2) ≡ held file (e ∷ past j)
+      → held (name file) (e3 ∷ newest_first j2) ≡ held file (e ∷ newest_first j)
   how_after file (inl uf) =
-      ap (λ (n : ℕ). held n (e3 ∷ past j2)) (keeps_name file uf)
-      ∙ held_grown used r (past j) (past j2) s.apart s.how who d t u file uf (old_below file uf)
-      (old_below2 file uf)
+      ap (λ (n : ℕ). held n (e3 ∷ newest_first j2)) (keeps_name file uf)
+      ∙ held_grown used r (newest_first j) (newest_first j2) s.apart s.how who d t u file uf
+      (old_below file uf) (old_below2 file uf)
   how_after file (inr is) =
-      ap (λ (n : ℕ). held n (e3 ∷ past j2)) (new_name file is)
-      ∙ held_new r (past j) (past j2) who d t is.1
-      ∙ ap (λ (n : ℕ). held n (e ∷ past j)) (past_length j ∙ sym is.0)
+      ap (λ (n : ℕ). held n (e3 ∷ newest_first j2)) (new_name file is)
+      ∙ held_new r (newest_first j) (newest_first j2) who d t is.1
+      ∙ ap (λ (n : ℕ). held n (e ∷ newest_first j)) (past_length j ∙ sym is.0)
 
   -- their last checks are alike
   checks_after : (file : ℕ) → IsOld file ⊎ IsNew file
-      → last_check (name file) (e3 ∷ past j2) ≡ last_check file (e ∷ past j)
+      → last_check (name file) (e3 ∷ newest_first j2) ≡ last_check file (e ∷ newest_first j)
   checks_after file (inl uf) =
-      ap (λ (n : ℕ). last_check n (e3 ∷ past j2)) (keeps_name file uf)
-      ∙ check_grown used r (past j) (past j2) s.apart s.how d u file uf
-      (last_check (r file) (past j2)) (last_check file (past j)) (s.checks file uf)
+      ap (λ (n : ℕ). last_check n (e3 ∷ newest_first j2)) (keeps_name file uf)
+      ∙ check_grown used r (newest_first j) (newest_first j2) s.apart s.how d u file uf
+      (last_check (r file) (newest_first j2)) (last_check file (newest_first j)) (s.checks file uf)
   checks_after file (inr is) =
       let counts2 : is_some (counted (deed_named r d) t) ≡ true
       = ap (λ (c : Option How). is_some c) (counted_named r d t) ∙ is.1 in
-      let n = length (past j) in
-      let n2 = length (past j2) in
-      ap (λ (x : ℕ). last_check x (e3 ∷ past j2)) (new_name file is)
-      ∙ unchecked_new (deed_named r d) t counts2 n2 (last_check n2 (past j2))
+      let n = length (newest_first j) in
+      let n2 = length (newest_first j2) in
+      ap (λ (x : ℕ). last_check x (e3 ∷ newest_first j2)) (new_name file is)
+      ∙ unchecked_new (deed_named r d) t counts2 n2 (last_check n2 (newest_first j2))
       ∙ s.sound2.files n2 (omega arith)
       ∙ sym (s.sound.files n (omega arith))
-      ∙ sym (unchecked_new d t is.1 n (last_check n (past j)))
-      ∙ ap (λ (x : ℕ). last_check x (e ∷ past j)) (past_length j ∙ sym is.0)
+      ∙ sym (unchecked_new d t is.1 n (last_check n (newest_first j)))
+      ∙ ap (λ (x : ℕ). last_check x (e ∷ newest_first j)) (past_length j ∙ sym is.0)
 
   -- ---- what calls were told
 
   -- longer lists show the same bytes
   shown_before : (bytes : List ℕ)
-      → is_listed after_list2 bytes (past j2) ≡ is_listed after_list bytes (past j)
+      → is_listed after_list2 bytes (newest_first j2) ≡ is_listed after_list bytes (newest_first j)
   shown_before bytes =
-      let more = after_longer list (asked inode d (past j)) t in
-      let more2 = after_longer list2 (asked inode d (past j)) t2 in
-      sym (ap (λ (l : List Entry). is_listed l bytes (past j2)) more2.1)
+      let more = after_longer list (asked inode d (newest_first j)) t in
+      let more2 = after_longer list2 (asked inode d (newest_first j)) t2 in
+      sym (ap (λ (l : List Entry). is_listed l bytes (newest_first j2)) more2.1)
       ∙ shown_longer inode list list2 more.0 more2.0 used r j j2 s bytes
-      ∙ ap (λ (l : List Entry). is_listed l bytes (past j)) more.1
+      ∙ ap (λ (l : List Entry). is_listed l bytes (newest_first j)) more.1
 
   -- and do so after the event
   shown_after : (bytes : List ℕ)
-      → is_listed after_list2 bytes (e2 ∷ past j2) ≡ is_listed after_list bytes (e ∷ past j)
+      → is_listed after_list2 bytes (e2 ∷ newest_first j2)
+      ≡ is_listed after_list bytes (e ∷ newest_first j)
   shown_after bytes =
       ap₂ (λ (a b : Bool). a || b) (shown_before bytes)
-      (outcome_shown inode list list2 lists d (past j) t bytes says)
+      (outcome_shown inode list list2 lists d (newest_first j) t bytes says)
 
   -- reads were listed alike
   listed_after : (task n : ℕ)
-      → listed_in after_list2 task n (e2 ∷ past j2) ≡ listed_in after_list task n (e ∷ past j)
+      → listed_in after_list2 task n (e2 ∷ newest_first j2)
+      ≡ listed_in after_list task n (e ∷ newest_first j)
   listed_after task n =
-      let more = after_longer list (asked inode d (past j)) t in
-      let more2 = after_longer list2 (asked inode d (past j)) t2 in
-      listed_grown r after_list after_list2 task n (past j) (past j2) who d t t2 s.content_in
-      shown_before
-      (sym (ap (λ (l : List Entry). listed_in l task n (past j2)) more2.1)
+      let more = after_longer list (asked inode d (newest_first j)) t in
+      let more2 = after_longer list2 (asked inode d (newest_first j)) t2 in
+      listed_grown r after_list after_list2 task n (newest_first j) (newest_first j2) who d t t2
+      s.content_in shown_before
+      (sym (ap (λ (l : List Entry). listed_in l task n (newest_first j2)) more2.1)
       ∙ reads_longer inode list list2 more.0 more2.0 used r j j2 s task n
-      ∙ ap (λ (l : List Entry). listed_in l task n (past j)) more.1)
+      ∙ ap (λ (l : List Entry). listed_in l task n (newest_first j)) more.1)
 
   -- ---- all of it
 
   -- the numbers of open files
   tallies : (test : How → Bool)
-      → tally test (files (past j2)) ≡ tally test (files (past j))
-      → tally test (files (e2 ∷ past j2)) ≡ tally test (files (e ∷ past j))
+      → tally test (files (newest_first j2)) ≡ tally test (files (newest_first j))
+      → tally test (files (e2 ∷ newest_first j2)) ≡ tally test (files (e ∷ newest_first j))
   tallies test h =
-      ap (tally test) (files_again inode who (deed_named r d) t reply2 (past j2))
-      ∙ tally_grown used r (past j) (past j2) s.apart s.how who d t u test h
+      ap (tally test) (files_again inode who (deed_named r d) t reply2 (newest_first j2))
+      ∙ tally_grown used r (newest_first j) (newest_first j2) s.apart s.how who d t u test h
 
   -- the inode is alike after the step
   pub grown_alike : IsInodeAlike inode after_list after_list2 used2 name (j ++ e ∷ [])
       (j2 ++ e2 ∷ [])
   grown_alike = record {
     sound = on (λ x y. IsSound inode after_list x)
-        (sound_grown inode list after_list (past j) who d t (not_shorter list t)
-        (checks_below used (length (past j)) d old_below u) placed s.sound);
+        (sound_grown inode list after_list (newest_first j) who d t (not_shorter list t)
+        (checks_below used (length (newest_first j)) d old_below u) placed s.sound);
     sound2 = on (λ x y. IsSound inode after_list2 y)
-        (sound_grown inode list2 after_list2 (past j2) who (deed_named r d) t2
+        (sound_grown inode list2 after_list2 (newest_first j2) who (deed_named r d) t2
         (not_shorter list2 t2)
-        (checks_below_named used r (length (past j2)) d old_below2 u) placed2 s.sound2);
+        (checks_below_named used r (length (newest_first j2)) d old_below2 u) placed2 s.sound2);
     below = λ file uf. below_after file (uses file uf);
     below2 = λ file uf. below2_after file (uses file uf);
     apart = λ f g uf ug. apart_after f g (uses f uf) (uses g ug);
     how = λ file uf. on (λ x y. held (name file) y ≡ held file x)
-        (ap (find_file (name file)) (files_again inode who (deed_named r d) t reply2 (past j2))
+        (ap (find_file (name file))
+        (files_again inode who (deed_named r d) t reply2 (newest_first j2))
         ∙ how_after file (uses file uf));
     checks = λ file uf. on (λ x y. last_check (name file) y ≡ last_check file x)
         (checks_after file (uses file uf));
     present_in = on (λ x y. present y ≡ present x)
-        (present_again inode who (deed_named r d) t reply2 (past j2)
-        ∙ present_named r d t (present (past j2))
+        (present_again inode who (deed_named r d) t reply2 (newest_first j2)
+        ∙ present_named r d t (present (newest_first j2))
         ∙ ap (λ (b : Bool). present_after d t b) s.present_in);
     new_in = on (λ x y. new y ≡ new x)
-        (new_again inode who (deed_named r d) t reply2 (past j2)
-        ∙ new_grown r (past j) (past j2) s.writers_in d t (new (past j2)) (new (past j)) s.new_in
-        s.present_in);
+        (new_again inode who (deed_named r d) t reply2 (newest_first j2)
+        ∙ new_grown r (newest_first j) (newest_first j2) s.writers_in d t (new (newest_first j2))
+        (new (newest_first j)) s.new_in s.present_in);
     versions_in = on (λ x y. versions y ≡ versions x)
-        (versions_again inode who (deed_named r d) t reply2 (past j2)
-        ∙ versions_named r d t (versions (past j2))
+        (versions_again inode who (deed_named r d) t reply2 (newest_first j2)
+        ∙ versions_named r d t (versions (newest_first j2))
         ∙ ap (λ (b : Bool). versions_after d t b) s.versions_in);
     content_in = on (λ x y. content y ≡ content x)
-        (content_again inode who (deed_named r d) t reply2 (past j2)
-        ∙ content_named r d t (content (past j2))
+        (content_again inode who (deed_named r d) t reply2 (newest_first j2)
+        ∙ content_named r d t (content (newest_first j2))
         ∙ ap (λ (c : List ℕ). content_after d t c) s.content_in);
     metadata_in = on (λ x y. metadata y ≡ metadata x)
-        (metadata_again inode who (deed_named r d) t reply2 (past j2)
-        ∙ metadata_named r d t (metadata (past j2))
+        (metadata_again inode who (deed_named r d) t reply2 (newest_first j2)
+        ∙ metadata_named r d t (metadata (newest_first j2))
         ∙ ap (λ (m : Meta). metadata_after d t m) s.metadata_in);
     attributes_in = on (λ x y. attributes inode y ≡ attributes inode x)
-        (attributes_again inode who (deed_named r d) t reply2 (past j2)
+        (attributes_again inode who (deed_named r d) t reply2 (newest_first j2)
         ∙ attributes_grown inode list list2 used r j j2 s d t);
     writers_in = on (λ x y. writers y ≡ writers x) (tallies is_writer s.writers_in);
     readers_in = on (λ x y. readers y ≡ readers x) (tallies is_reader s.readers_in);
     execs_in = on (λ x y. execs y ≡ execs x) (tallies is_exec s.execs_in);
     must_measure_in = on (λ x y. must_measure y ≡ must_measure x)
-        (must_measure_again inode who (deed_named r d) t reply2 (past j2)
+        (must_measure_again inode who (deed_named r d) t reply2 (newest_first j2)
         ∙ must_measure_grown inode list list2 used r j j2 s d t u);
     update_in = on (λ x y. update y ≡ update x)
-        (update_again inode who (deed_named r d) t reply2 (past j2)
+        (update_again inode who (deed_named r d) t reply2 (newest_first j2)
         ∙ update_grown inode list list2 used r j j2 s d t u);
     modified = on (λ x y. modified_in (span y) ≡ modified_in (span x))
-        (span_again inode who (deed_named r d) t reply2 (past j2)
-        ∙ span_grown r (past j) (past j2) s.writers_in who d t s.modified);
+        (span_again inode who (deed_named r d) t reply2 (newest_first j2)
+        ∙ span_grown r (newest_first j) (newest_first j2) s.writers_in who d t s.modified);
     collection = on (λ x y. option_map (collection_seen y) (collecting inode y)
         ≡ option_map (collection_seen x) (collecting inode x))
-        (collection_again inode who (deed_named r d) t reply2 (past j2)
+        (collection_again inode who (deed_named r d) t reply2 (newest_first j2)
         ∙ collection_grown inode list list2 used r j j2 s who d t);
     digests = on (λ x y. option_map (digests_seen y) (in_force inode y)
         ≡ option_map (digests_seen x) (in_force inode x))
-        (digests_again inode who (deed_named r d) t reply2 (past j2)
+        (digests_again inode who (deed_named r d) t reply2 (newest_first j2)
         ∙ digests_grown inode list list2 used r j j2 s who d t);
     verdicts = λ key. on (λ x y. verdict_in_force inode key y ≡ verdict_in_force inode key x)
-        (verdicts_again inode who (deed_named r d) t reply2 (past j2) key
+        (verdicts_again inode who (deed_named r d) t reply2 (newest_first j2) key
         ∙ verdicts_grown inode list list2 used r j j2 s key d t u);
     shown = λ bytes. on (λ x y. is_listed after_list2 bytes y ≡ is_listed after_list bytes x)
         (shown_after bytes);
@@ -354,8 +357,8 @@ listed_alike inode list list2 more more2 used r j j2 s =
     let longer2 : length list2 ≤ length (list2 ++ more2)
     = omega (arith, length-append list2 more2) in
     record {
-      sound = sound_longer inode list (list ++ more) (past j) longer s.sound;
-      sound2 = sound_longer inode list2 (list2 ++ more2) (past j2) longer2 s.sound2;
+      sound = sound_longer inode list (list ++ more) (newest_first j) longer s.sound;
+      sound2 = sound_longer inode list2 (list2 ++ more2) (newest_first j2) longer2 s.sound2;
       below = s.below;
       below2 = s.below2;
       apart = s.apart;

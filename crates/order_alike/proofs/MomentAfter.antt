@@ -6,12 +6,12 @@ use Rattle.std.proofs.lemmas.Bool.{cases_eq, eq-eqb, eqb-true, ne_eqb, or_right}
 use Rattle.std.proofs.lemmas.List.{get_or-set_other, get_or-set_same, map-set}
 use Rattle.std.proofs.lemmas.Option.{none-some, same_Some}
 use Rattle.order_outcomes.specs.reports.model.History.{Thought, event}
-use Rattle.order_outcomes.specs.reports.model.Scene.{Scene, Station, inode_of}
+use Rattle.order_outcomes.specs.reports.model.Scene.{Scene, ScriptFile, inode_of}
 use Rattle.order_outcomes.specs.reports.model.Turns.{Moment, journal_at, state_on}
 use Rattle.order_outcomes.specs.reports.model.events.Asked.{asked, list_after, outcome, placed_for}
 use Rattle.order_outcomes.specs.reports.model.events.Files.{counted}
 use Rattle.order_outcomes.specs.reports.model.events.Inode.{Inode}
-use Rattle.order_outcomes.specs.reports.model.events.Past.{past, past_more}
+use Rattle.order_outcomes.specs.reports.model.events.NewestFirst.{newest_first, past_more}
 use Rattle.order_outcomes.specs.reports.model.events.Semaphores.{is_post, is_wait, left, posts, semaphore_says, waits}
 use Rattle.order_outcomes.specs.reports.model.events.declared.deed.Deed.{Deed}
 use Rattle.order_outcomes.specs.reports.model.events.declared.deed.Deed.TheVariants as deed
@@ -81,18 +81,19 @@ pub left_same : (sem : ℕ) (a b : List Event) → SameCount sem a b → left se
 left_same sem a b same = omega arith
 
 -- and so it is after the same deed
-pub count_more : (sem : ℕ) (a b : List Event) (e : Event) → SameCount sem (past a) (past b)
-    → SameCount sem (past (a ++ e ∷ [])) (past (b ++ e ∷ []))
+pub count_more : (sem : ℕ) (a b : List Event) (e : Event)
+    → SameCount sem (newest_first a) (newest_first b)
+    → SameCount sem (newest_first (a ++ e ∷ [])) (newest_first (b ++ e ∷ []))
 count_more sem a b e same =
-    subst (λ (pa : List Event). SameCount sem pa (past (b ++ e ∷ []))) (sym (past_more a e))
-    (subst (λ (pb : List Event). SameCount sem (e ∷ past a) pb) (sym (past_more b e))
+    subst (λ (pa : List Event). SameCount sem pa (newest_first (b ++ e ∷ []))) (sym (past_more a e))
+    (subst (λ (pb : List Event). SameCount sem (e ∷ newest_first a) pb) (sym (past_more b e))
     (by (is_post sem e.deed) (is_wait sem e.deed)))
   where
     by : (x y : Bool)
-        → (if x then 1 + posts sem (past b) else posts sem (past b))
-        + (if y then 1 + waits sem (past a) else waits sem (past a))
-        ≡ (if x then 1 + posts sem (past a) else posts sem (past a))
-        + (if y then 1 + waits sem (past b) else waits sem (past b))
+        → (if x then 1 + posts sem (newest_first b) else posts sem (newest_first b))
+        + (if y then 1 + waits sem (newest_first a) else waits sem (newest_first a))
+        ≡ (if x then 1 + posts sem (newest_first a) else posts sem (newest_first a))
+        + (if y then 1 + waits sem (newest_first b) else waits sem (newest_first b))
     by true true = omega (arith, same)
     by true false = omega (arith, same)
     by false true = omega (arith, same)
@@ -119,11 +120,11 @@ module _ (laws : InodeLaws) (scene : Scene) (r : Naming) (a b : Moment)
   keeps_apart = record {
     none = alike.none;
     zero = λ i. refl;
-    apart = λ i f g is is2. by i f g is is2 (slice_get scene.stations i) refl;
+    apart = λ i f g is is2. by i f g is is2 (slice_get scene.script_files i) refl;
   }
     where
-      by : (i f g : ℕ) → used i f ≡ true → used i g ≡ true → (o : Option Station)
-          → slice_get scene.stations i ≡ o → (r i f == r i g) ≡ (f == g)
+      by : (i f g : ℕ) → used i f ≡ true → used i g ≡ true → (o : Option ScriptFile)
+          → slice_get scene.script_files i ≡ o → (r i f == r i g) ≡ (f == g)
       by i f g is is2 None e =
           let same = alike.elsewhere i e in
           λ j. same f j == same g j
@@ -148,7 +149,7 @@ module _ (laws : InodeLaws) (scene : Scene) (r : Naming) (a b : Moment)
   -- the moments are alike after a step that has the same effect in both
   pub rest_alike : (n : ℕ) (ga gb : List Event) (xa xb : List RuleEntry) (ta tb : Thought)
       → Covers used ta → tb ≡ thought_named r ta → xb ≡ xa
-      → ((sem : ℕ) → SameCount sem (past ga) (past gb))
+      → ((sem : ℕ) → SameCount sem (newest_first ga) (newest_first gb))
       → IsAlikeBy scene r (with_rest a n ga xa ta) (with_rest b n gb xb tb)
   rest_alike n ga gb xa xb ta tb covers named added counts = record {
     none = alike.none;
@@ -183,7 +184,7 @@ module _ (laws : InodeLaws) (scene : Scene) (r : Naming) (a b : Moment)
       (subst (λ (l : List Entry). IsInodeAlike inode (a.state.list ++ more.0) l u q j j2) more2.1
       longer)
 
-  module _ (i : ℕ) (s : Station) (at : slice_get scene.stations i ≡ Some s) where
+  module _ (i : ℕ) (s : ScriptFile) (at : slice_get scene.script_files i ≡ Some s) where
     abbrev this : IsInodeAlike (inode_of scene s) a.state.list b.state.list (used i) (r i)
         (journal_at a.state i) (journal_at b.state i)
     this = alike.inodes i s at
@@ -201,13 +202,13 @@ module _ (laws : InodeLaws) (scene : Scene) (r : Naming) (a b : Moment)
     -- the reply of the second list to the entry that a deed asks for
     abbrev pub reply2 : Deed → Placed
     reply2 d =
-        placed_for b.state.list (asked (inode_of scene s) d (past (journal_at a.state i)))
+        placed_for b.state.list (asked (inode_of scene s) d (newest_first (journal_at a.state i)))
 
     -- the outcome is the same, but for that reply
     pub outcome_alike : (d : Deed) → IsUsed (used i) (file_in d)
-        → outcome (inode_of scene s) b.state.list (deed_named (r i) d) (past (journal_at b.state i))
-        ≡ option_map (told_with (reply2 d))
-        (outcome (inode_of scene s) a.state.list d (past (journal_at a.state i)))
+        → outcome (inode_of scene s) b.state.list (deed_named (r i) d)
+        (newest_first (journal_at b.state i)) ≡ option_map (told_with (reply2 d))
+        (outcome (inode_of scene s) a.state.list d (newest_first (journal_at a.state i)))
     outcome_alike d is =
         laws.outcome_same (inode_of scene s) a.state.list b.state.list (used i) (r i)
         (journal_at a.state i) (journal_at b.state i) d this is
@@ -237,8 +238,8 @@ module _ (laws : InodeLaws) (scene : Scene) (r : Naming) (a b : Moment)
     -- unless the event has counted one
     module _ (n : ℕ) (who : Who) (d : Deed) (t : Told) (ta tb : Thought)
         (is : IsUsed (used i) (file_in d))
-        (out : outcome (inode_of scene s) a.state.list d (past (journal_at a.state i)) ≡ Some t)
-        (named : tb ≡ thought_named after ta)
+        (out : outcome (inode_of scene s) a.state.list d (newest_first (journal_at a.state i))
+        ≡ Some t) (named : tb ≡ thought_named after ta)
         (files : (k file : ℕ) → has_file k file ta ≡ true
         → (used k file ≡ true) ⊎ ((k ≡ i) × ((file ≡ place_in i) × (is_some (counted d t) ≡ true))))
       where
@@ -247,7 +248,7 @@ module _ (laws : InodeLaws) (scene : Scene) (r : Naming) (a b : Moment)
 
         -- the entry that it asks for, and the lists after it
         abbrev asks : Option Entry
-        asks = asked (inode_of scene s) d (past (journal_at a.state i))
+        asks = asked (inode_of scene s) d (newest_first (journal_at a.state i))
 
         -- the outcome in the second moment
         abbrev t2 : Told
@@ -267,19 +268,21 @@ module _ (laws : InodeLaws) (scene : Scene) (r : Naming) (a b : Moment)
         after_b = with_event b n who (deed_named (r i) d) t2 tb
 
         -- the same entry is asked for
-        same_asked : asked (inode_of scene s) (deed_named (r i) d) (past (journal_at b.state i))
-            ≡ asked (inode_of scene s) d (past (journal_at a.state i))
+        same_asked : asked (inode_of scene s) (deed_named (r i) d)
+            (newest_first (journal_at b.state i))
+            ≡ asked (inode_of scene s) d (newest_first (journal_at a.state i))
         same_asked =
             laws.asked_same (inode_of scene s) a.state.list b.state.list (used i) (r i)
             (journal_at a.state i) (journal_at b.state i) d this is
 
         -- an inode that isn't in the scene is another one
-        not_here : (k : ℕ) → slice_get scene.stations k ≡ None → k ≡ i → ⊥
-        not_here k none e = none-some s (sym none ∙ ap (slice_get scene.stations) e ∙ at)
+        not_here : (k : ℕ) → slice_get scene.script_files k ≡ None → k ≡ i → ⊥
+        not_here k none e = none-some s (sym none ∙ ap (slice_get scene.script_files) e ∙ at)
 
         -- what is alike of an inode after the event, for these names and journals
-        abbrev Inode2 : Station → ℕ → (ℕ → ℕ) → List Event → List Event → Type 0
-        Inode2 station k q x y = IsInodeAlike (inode_of scene station) list_a list_b (used2 k) q x y
+        abbrev Inode2 : ScriptFile → ℕ → (ℕ → ℕ) → List Event → List Event → Type 0
+        Inode2 script_file k q x y =
+            IsInodeAlike (inode_of scene script_file) list_a list_b (used2 k) q x y
 
         -- at this inode
         files_here : (file : ℕ) → used2 i file ≡ true
@@ -315,34 +318,37 @@ module _ (laws : InodeLaws) (scene : Scene) (r : Naming) (a b : Moment)
             (used_after a.thoughts n ta k file has)
 
         -- the journals of other inodes still are
-        there : (k : ℕ) (station : Station) → slice_get scene.stations k ≡ Some station
-            → (k ≡ i → ⊥)
-            → Inode2 station k (after k) (journal_at after_a.state k) (journal_at after_b.state k)
-        there k station e ne =
-            let old = listed_after (inode_of scene station) asks t t2 (used k) (r k)
-            (journal_at a.state k) (journal_at b.state k) (alike.inodes k station e) in
-            let less = laws.fewer (inode_of scene station) list_a list_b (used k) (used2 k) (r k)
-            (journal_at a.state k) (journal_at b.state k) old (files_there k ne) in
+        there : (k : ℕ) (script_file : ScriptFile)
+            → slice_get scene.script_files k ≡ Some script_file → (k ≡ i → ⊥)
+            → Inode2 script_file k (after k) (journal_at after_a.state k)
+            (journal_at after_b.state k)
+        there k script_file e ne =
+            let old = listed_after (inode_of scene script_file) asks t t2 (used k) (r k)
+            (journal_at a.state k) (journal_at b.state k) (alike.inodes k script_file e) in
+            let less = laws.fewer (inode_of scene script_file) list_a list_b (used k) (used2 k)
+            (r k) (journal_at a.state k) (journal_at b.state k) old (files_there k ne) in
             let ja = get_or-set_other a.state.journals i k
             (journal_at a.state i ++ event who d t ∷ []) [] ne in
             let jb = get_or-set_other b.state.journals i k
             (journal_at b.state i ++ event who (deed_named (r i) d) t2 ∷ []) [] ne in
             let names = naming_other r i (place_in i) (place_in2 i) k ne in
-            subst (λ (q : ℕ → ℕ). Inode2 station k q (journal_at after_a.state k)
+            subst (λ (q : ℕ → ℕ). Inode2 script_file k q (journal_at after_a.state k)
             (journal_at after_b.state k)) (sym names)
-            (subst (λ (x : List Event). Inode2 station k (r k) x (journal_at after_b.state k))
+            (subst (λ (x : List Event). Inode2 script_file k (r k) x (journal_at after_b.state k))
             (sym ja)
-            (subst (λ (y : List Event). Inode2 station k (r k) (journal_at a.state k) y) (sym jb)
-            less))
+            (subst (λ (y : List Event). Inode2 script_file k (r k) (journal_at a.state k) y)
+            (sym jb) less))
 
         -- so all are
-        each : (k : ℕ) (station : Station) → slice_get scene.stations k ≡ Some station
-            → (k ≡ i) ⊎ (k ≡ i → ⊥)
-            → Inode2 station k (after k) (journal_at after_a.state k) (journal_at after_b.state k)
-        each k station e (inr ne) = there k station e ne
-        each k station e (inl same) =
-            let one = same_Some s station (sym at ∙ ap (slice_get scene.stations) (sym same) ∙ e) in
-            subst (λ (x : Station). Inode2 x k (after k) (journal_at after_a.state k)
+        each : (k : ℕ) (script_file : ScriptFile)
+            → slice_get scene.script_files k ≡ Some script_file → (k ≡ i) ⊎ (k ≡ i → ⊥)
+            → Inode2 script_file k (after k) (journal_at after_a.state k)
+            (journal_at after_b.state k)
+        each k script_file e (inr ne) = there k script_file e ne
+        each k script_file e (inl same) =
+            let one = same_Some s script_file
+            (sym at ∙ ap (slice_get scene.script_files) (sym same) ∙ e) in
+            subst (λ (x : ScriptFile). Inode2 x k (after k) (journal_at after_a.state k)
             (journal_at after_b.state k)) one
             (subst (λ (x : ℕ). Inode2 s x (after x) (journal_at after_a.state x)
             (journal_at after_b.state x)) (sym same) here)
@@ -359,11 +365,11 @@ module _ (laws : InodeLaws) (scene : Scene) (r : Naming) (a b : Moment)
                   ∙ alike.elsewhere k none file;
               thoughts = (λ j. slice_set (thoughts j) n (named j))
                   ∙ sym (map-set (thought_named after) a.thoughts n ta);
-              inodes = λ k station e.
-                  subst (λ (o : Option Entry). IsInodeAlike (inode_of scene station) list_a
+              inodes = λ k script_file e.
+                  subst (λ (o : Option Entry). IsInodeAlike (inode_of scene script_file) list_a
                   (list_after b.state.list o (Some t2)) (used2 k) (after k)
                   (journal_at after_a.state k) (journal_at after_b.state k)) (sym same_asked)
-                  (each k station e (cases_eq k i));
+                  (each k script_file e (cases_eq k i));
               lists = subst (λ (o : Option Entry). AreListsAlike list_a
                   (list_after b.state.list o (Some t2))) (sym same_asked)
                   (lists_after a.state.list b.state.list alike.lists asks t t2);

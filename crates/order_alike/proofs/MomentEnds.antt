@@ -12,10 +12,10 @@ use Rattle.order_outcomes.specs.reports.Report.{reply_words}
 use Rattle.order_outcomes.specs.reports.model.Ended.{is_done}
 use Rattle.order_outcomes.specs.reports.model.EndedValue.{EndedTaskValue, inodes_ended, tasks_ended}
 use Rattle.order_outcomes.specs.reports.model.History.{Thought}
-use Rattle.order_outcomes.specs.reports.model.Scene.{Program, Scene, Station}
+use Rattle.order_outcomes.specs.reports.model.Scene.{Program, Scene, ScriptFile}
 use Rattle.order_outcomes.specs.reports.model.Turns.{Moment, journal_at}
 use Rattle.order_outcomes.specs.reports.model.events.EndedInode.{EndedInodeValue}
-use Rattle.order_outcomes.specs.reports.model.events.Past.{past}
+use Rattle.order_outcomes.specs.reports.model.events.NewestFirst.{newest_first}
 use Rattle.order_outcomes.specs.reports.model.events.declared.told.Event.{Event}
 use Rattle.order_outcomes.specs.reports.model.events.templates.declared.entry.Entry.{Entry}
 use Rattle.order_outcomes.specs.reports.model.steps.declared.reply.Reply.{Reply}
@@ -27,17 +27,18 @@ record TellSame (list list2 : List Entry) (j j2 : List Event) : Type 0 where
   some : 0 < length j
   some2 : 0 < length j2
   told : (task n : ℕ) → verdict_in task n j2 ≡ verdict_in task n j
-  listed : (task n : ℕ) → listed_in list2 task n (past j2) ≡ listed_in list task n (past j)
+  listed : (task n : ℕ)
+      → listed_in list2 task n (newest_first j2) ≡ listed_in list task n (newest_first j)
 
 -- the journals of all these inodes do
-abbrev AllTellSame : List Entry → List Entry → List Station → List (List Event)
+abbrev AllTellSame : List Entry → List Entry → List ScriptFile → List (List Event)
     → List (List Event) → Type 0
 AllTellSame list list2 ss js js2 =
-    (k : ℕ) (s : Station) → slice_get ss k ≡ Some s
+    (k : ℕ) (s : ScriptFile) → slice_get ss k ≡ Some s
     → TellSame list list2 (get_or js k []) (get_or js2 k [])
 
 -- then each call has the same verdict
-verdicts_same : (list list2 : List Entry) (scene : Scene) (task n : ℕ) (ss : List Station)
+verdicts_same : (list list2 : List Entry) (scene : Scene) (task n : ℕ) (ss : List ScriptFile)
     (js js2 : List (List Event)) → AllTellSame list list2 ss js js2
     → verdict_of task n (inodes_ended scene ss js2) ≡ verdict_of task n (inodes_ended scene ss js)
 verdicts_same list list2 scene task n [] js js2 same = refl
@@ -48,11 +49,11 @@ verdicts_same list list2 scene task n (s ∷ ss) (j ∷ js) [] same =
 verdicts_same list list2 scene task n (s ∷ ss) (j ∷ js) (j2 ∷ js2) same =
     let here = (same 0 s refl).told task n in
     let rest = verdicts_same list list2 scene task n ss js js2
-    (λ k station e. same (suc k) station e) in
+    (λ k script_file e. same (suc k) script_file e) in
     λ i. option_or (here i) (rest i)
 
 -- and the same is said of what it has read
-listed_same : (list list2 : List Entry) (scene : Scene) (task n : ℕ) (ss : List Station)
+listed_same : (list list2 : List Entry) (scene : Scene) (task n : ℕ) (ss : List ScriptFile)
     (js js2 : List (List Event)) → AllTellSame list list2 ss js js2
     → listed_of list2 task n (inodes_ended scene ss js2)
     ≡ listed_of list task n (inodes_ended scene ss js)
@@ -64,7 +65,7 @@ listed_same list list2 scene task n (s ∷ ss) (j ∷ js) [] same =
 listed_same list list2 scene task n (s ∷ ss) (j ∷ js) (j2 ∷ js2) same =
     let here = (same 0 s refl).listed task n in
     let rest = listed_same list list2 scene task n ss js js2
-    (λ k station e. same (suc k) station e) in
+    (λ k script_file e. same (suc k) script_file e) in
     λ i. option_or (here i) (rest i)
 
 -- ---- the texts
@@ -121,8 +122,8 @@ outcome_by measured violations list inodes tasks =
 outcome_same : (scene : Scene) (r : Naming) (a b : Moment) → IsAlikeBy scene r a b
     → outcome_at scene a ≡ outcome_at scene b
 outcome_same scene r a b alike =
-    let is = inodes_ended scene scene.stations a.state.journals in
-    let is2 = inodes_ended scene scene.stations b.state.journals in
+    let is = inodes_ended scene scene.script_files a.state.journals in
+    let is2 = inodes_ended scene scene.script_files b.state.journals in
     let tasks = ap (tasks_ended scene.programs) alike.thoughts
     ∙ tasks_named r scene.programs a.thoughts in
     let measured = alike.lists.lines Measurements in
@@ -131,15 +132,15 @@ outcome_same scene r a b alike =
     (lines_of Violations a.state.list) b.state.list is2 (tasks_ended scene.programs a.thoughts)
     = λ j. outcome_by (measured j) (violations j) b.state.list is2 (tasks j) in
     let texts = tasks_same a.state.list b.state.list is is2
-    (λ task n. verdicts_same a.state.list b.state.list scene task n scene.stations
+    (λ task n. verdicts_same a.state.list b.state.list scene task n scene.script_files
     a.state.journals b.state.journals tell)
-    (λ task n. listed_same a.state.list b.state.list scene task n scene.stations
+    (λ task n. listed_same a.state.list b.state.list scene task n scene.script_files
     a.state.journals b.state.journals tell)
     0 (tasks_ended scene.programs a.thoughts) in
     sym (same ∙ ap (λ (text : List ℕ). lines_text Measurements (lines_of Measurements a.state.list)
     ++ lines_text Violations (lines_of Violations a.state.list) ++ text) texts)
   where
-    tell : AllTellSame a.state.list b.state.list scene.stations a.state.journals
+    tell : AllTellSame a.state.list b.state.list scene.script_files a.state.journals
         b.state.journals
     tell k s e =
         let inode = alike.inodes k s e in

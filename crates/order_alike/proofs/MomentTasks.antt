@@ -6,12 +6,12 @@ use Rattle.order_outcomes.specs.counts.Layers.{BothOrNone}
 use Rattle.order_outcomes.specs.Orders.{moved}
 use Rattle.order_outcomes.specs.reports.model.History.{Thought, call_at, event, hear, hear_in, step_in, thought_with, who_at, who_in}
 use Rattle.order_outcomes.specs.reports.model.Rounds.{is_moved, moves_at}
-use Rattle.order_outcomes.specs.reports.model.Scene.{Program, Scene, Station, decided, inode_of, mode_of, rules_with}
-use Rattle.order_outcomes.specs.reports.model.Turns.{Moment, State, Turned, go, go_check, go_does, go_event, go_signal, go_step, hear_told, journal_at, state_on, turn_of, turned}
+use Rattle.order_outcomes.specs.reports.model.Scene.{Program, Scene, ScriptFile, decided, inode_of, mode_of, rules_with}
+use Rattle.order_outcomes.specs.reports.model.Turns.{Moment, State, Turned, hear_told, journal_at, state_on, step_check, step_does, step_due, step_event, step_signal, step_task, turn_of, turned}
 use Rattle.order_outcomes.specs.reports.model.events.Asked.{made, outcome}
 use Rattle.order_outcomes.specs.reports.model.events.Checks.{no_action}
 use Rattle.order_outcomes.specs.reports.model.events.Files.{counted}
-use Rattle.order_outcomes.specs.reports.model.events.Past.{past}
+use Rattle.order_outcomes.specs.reports.model.events.NewestFirst.{newest_first}
 use Rattle.order_outcomes.specs.reports.model.events.Semaphores.{semaphore_says}
 use Rattle.order_outcomes.specs.reports.model.events.State.{metadata}
 use Rattle.order_outcomes.specs.reports.model.events.declared.deed.Deed.{Deed}
@@ -239,7 +239,7 @@ module _ (laws : InodeLaws) (scene : Scene) (r : Naming) (a b : Moment)
 
     -- ---- an event of the inode
 
-    module _ (s : Station) (there : slice_get scene.stations g.inode ≡ Some s) (d : Deed)
+    module _ (s : ScriptFile) (there : slice_get scene.script_files g.inode ≡ Some s) (d : Deed)
         (suits : Suits g.due.ask d) (is : IsUsed (used g.inode) (file_in d)) (action : Action)
         (rules : ℕ) where
       abbrev place : ℕ
@@ -266,8 +266,8 @@ module _ (laws : InodeLaws) (scene : Scene) (r : Naming) (a b : Moment)
 
       -- an event with this outcome, or none if the step is blocked
       told_alike : (o : Option Told)
-          → outcome (inode_of scene s) a.state.list d (past (journal_at a.state g.inode)) ≡ o
-          → MoveAlike scene a b n (event_with a.state t (who_at n p t.mind) d place o)
+          → outcome (inode_of scene s) a.state.list d (newest_first (journal_at a.state g.inode))
+          ≡ o → MoveAlike scene a b n (event_with a.state t (who_at n p t.mind) d place o)
           (event_with b.state t2 (who_at n p t.mind) (deed_named (r g.inode) d) place2
           (option_map (told_with q) o))
       told_alike None out = inl (refl, refl)
@@ -318,61 +318,62 @@ module _ (laws : InodeLaws) (scene : Scene) (r : Naming) (a b : Moment)
       -- the step, with the outcome that it has in either moment
       pub inode_step : MoveAlike scene a b n
           (event_with a.state t (who_at n p t.mind) d place
-          (outcome (inode_of scene s) a.state.list d (past (journal_at a.state g.inode))))
+          (outcome (inode_of scene s) a.state.list d (newest_first (journal_at a.state g.inode))))
           (event_with b.state t2 (who_at n p t2.mind) (deed_named (r g.inode) d) place2
           (outcome (inode_of scene s) b.state.list (deed_named (r g.inode) d)
-          (past (journal_at b.state g.inode))))
+          (newest_first (journal_at b.state g.inode))))
       inode_step =
           let x = event_with a.state t (who_at n p t.mind) d place
-          (outcome (inode_of scene s) a.state.list d (past (journal_at a.state g.inode))) in
+          (outcome (inode_of scene s) a.state.list d (newest_first (journal_at a.state g.inode))) in
           let same = outcome_alike laws scene r a b alike g.inode s there d is in
           subst (λ (who : Who). MoveAlike scene a b n x (event_with b.state t2 who
           (deed_named (r g.inode) d) place2 (outcome (inode_of scene s) b.state.list
-          (deed_named (r g.inode) d) (past (journal_at b.state g.inode))))) (sym who_same)
+          (deed_named (r g.inode) d) (newest_first (journal_at b.state g.inode))))) (sym who_same)
           (subst (λ (o : Option Told). MoveAlike scene a b n x (event_with b.state t2
           (who_at n p t.mind) (deed_named (r g.inode) d) place2 o)) (sym same)
           (told_alike (outcome (inode_of scene s) a.state.list d
-          (past (journal_at a.state g.inode))) refl))
+          (newest_first (journal_at a.state g.inode))) refl))
 
     -- a step on the inode
     does_alike : (d : Deed) → Suits g.due.ask d → IsUsed (used g.inode) (file_in d)
-        → MoveAlike scene a b n (go_step scene n p a.state t (Some (Does g.inode d)))
-        (go_step scene n p b.state t2 (Some (Does g.inode (deed_named (r g.inode) d))))
-    does_alike d suits is = by (slice_get scene.stations g.inode) refl
+        → MoveAlike scene a b n (step_due scene n p a.state t (Some (Does g.inode d)))
+        (step_due scene n p b.state t2 (Some (Does g.inode (deed_named (r g.inode) d))))
+    does_alike d suits is = by (slice_get scene.script_files g.inode) refl
       where
-        by : (o : Option Station) → slice_get scene.stations g.inode ≡ o
-            → MoveAlike scene a b n (go_does scene n p a.state t g.inode o d)
-            (go_does scene n p b.state t2 g.inode o (deed_named (r g.inode) d))
+        by : (o : Option ScriptFile) → slice_get scene.script_files g.inode ≡ o
+            → MoveAlike scene a b n (step_does scene n p a.state t g.inode o d)
+            (step_does scene n p b.state t2 g.inode o (deed_named (r g.inode) d))
         by None there = inl (refl, refl)
         by (Some s) there = inode_step s there d suits is no_action 0
 
     -- a check, by the rules in force and the metadata
     check_alike : (func : Func) (mask : ℕ) → g.due.ask ≡ ask.Check func mask
         → MoveAlike scene a b n
-        (go_step scene n p a.state t (Some (Checks g.inode g.file func mask)))
-        (go_step scene n p b.state t2 (Some (Checks g.inode (r g.inode g.file) func mask)))
-    check_alike func mask e = by (slice_get scene.stations g.inode) refl
+        (step_due scene n p a.state t (Some (Checks g.inode g.file func mask)))
+        (step_due scene n p b.state t2 (Some (Checks g.inode (r g.inode g.file) func mask)))
+    check_alike func mask e = by (slice_get scene.script_files g.inode) refl
       where
-        by : (o : Option Station) → slice_get scene.stations g.inode ≡ o
-            → MoveAlike scene a b n (go_check scene n p a.state t g.inode o g.file func mask)
-            (go_check scene n p b.state t2 g.inode o (r g.inode g.file) func mask)
+        by : (o : Option ScriptFile) → slice_get scene.script_files g.inode ≡ o
+            → MoveAlike scene a b n (step_check scene n p a.state t g.inode o g.file func mask)
+            (step_check scene n p b.state t2 g.inode o (r g.inode g.file) func mask)
         by None there = inl (refl, refl)
         by (Some s) there =
             let meta = (alike.inodes g.inode s there).metadata_in in
             let rules = rules_with scene a.state.added in
             let action = decided rules p.cred s.place
-            (metadata (past (journal_at a.state g.inode))) func mask in
+            (metadata (newest_first (journal_at a.state g.inode))) func mask in
             let d = deed.Check g.file func action (length rules) in
-            let x = go_check scene n p a.state t g.inode (Some s) g.file func mask in
+            let x = step_check scene n p a.state t g.inode (Some s) g.file func mask in
             let checked = λ (added : List RuleEntry) (m : Meta).
-            go_event scene n p b.state t2 g.inode (inode_of scene s)
+            step_event scene n p b.state t2 g.inode (inode_of scene s)
             (deed.Check (r g.inode g.file) func
             (decided (rules_with scene added) p.cred s.place m func mask)
             (length (rules_with scene added)))
             (decided (rules_with scene added) p.cred s.place m func mask)
             (length (rules_with scene added)) in
             subst (λ (added : List RuleEntry). MoveAlike scene a b n x
-            (checked added (metadata (past (journal_at b.state g.inode))))) (sym alike.added)
+            (checked added (metadata (newest_first (journal_at b.state g.inode)))))
+            (sym alike.added)
             (subst (λ (m : Meta). MoveAlike scene a b n x (checked a.state.added m)) (sym meta)
             (inode_step s there d (subst (λ (k : Ask). Suits k d) (sym e) tt) g_used action
             (length rules)))
@@ -382,7 +383,7 @@ module _ (laws : InodeLaws) (scene : Scene) (r : Naming) (a b : Moment)
     module _ (plain : g.due.ask ≡ ask.Plain) where
       rest_step : (place place2 : ℕ) (o : Told) (action : Action) (rules : ℕ)
           (ga gb : List Event) (xa xb : List RuleEntry) → xb ≡ xa
-          → ((sem : ℕ) → SameCount sem (past ga) (past gb))
+          → ((sem : ℕ) → SameCount sem (newest_first ga) (newest_first gb))
           → IsAlikeBy scene r
           (record {
             state = record a.state { signals = ga; added = xa };
@@ -416,8 +417,8 @@ module _ (laws : InodeLaws) (scene : Scene) (r : Naming) (a b : Moment)
           added counts
 
       -- a step that does nothing
-      nothing_alike : MoveAlike scene a b n (go_step scene n p a.state t (Some Nothing))
-          (go_step scene n p b.state t2 (Some Nothing))
+      nothing_alike : MoveAlike scene a b n (step_due scene n p a.state t (Some Nothing))
+          (step_due scene n p b.state t2 (Some Nothing))
       nothing_alike =
           let both = rest_step 0 0 told.Nothing no_action 0 a.state.signals b.state.signals
           a.state.added b.state.added alike.added alike.semaphores in
@@ -425,16 +426,17 @@ module _ (laws : InodeLaws) (scene : Scene) (r : Naming) (a b : Moment)
 
       -- a post or a wait
       signal_alike : (d : Deed)
-          → MoveAlike scene a b n (go_step scene n p a.state t (Some (Signals d)))
-          (go_step scene n p b.state t2 (Some (Signals d)))
+          → MoveAlike scene a b n (step_due scene n p a.state t (Some (Signals d)))
+          (step_due scene n p b.state t2 (Some (Signals d)))
       signal_alike d =
-          let x = go_step scene n p a.state t (Some (Signals d)) in
-          subst (λ (o : Option Told). MoveAlike scene a b n x (go_signal scene n p b.state t2 d o))
-          (sym (says_same (past a.state.signals) (past b.state.signals) alike.semaphores d))
-          (by (semaphore_says (past a.state.signals) d))
+          let x = step_due scene n p a.state t (Some (Signals d)) in
+          subst (λ (o : Option Told). MoveAlike scene a b n x
+          (step_signal scene n p b.state t2 d o))
+          (sym (says_same (newest_first a.state.signals) (newest_first b.state.signals)
+          alike.semaphores d)) (by (semaphore_says (newest_first a.state.signals) d))
         where
-          by : (o : Option Told) → MoveAlike scene a b n (go_signal scene n p a.state t d o)
-              (go_signal scene n p b.state t2 d o)
+          by : (o : Option Told) → MoveAlike scene a b n (step_signal scene n p a.state t d o)
+              (step_signal scene n p b.state t2 d o)
           by None = inl (refl, refl)
           by (Some o) =
               let e = event (who_at n p t.mind) d o in
@@ -443,8 +445,8 @@ module _ (laws : InodeLaws) (scene : Scene) (r : Naming) (a b : Moment)
               let both = rest_step (length a.state.signals) (length b.state.signals) o no_action 0
               (a.state.signals ++ e ∷ []) (b.state.signals ++ e ∷ []) a.state.added b.state.added
               alike.added counts in
-              subst (λ (who : Who). MoveAlike scene a b n (go_signal scene n p a.state t d (Some o))
-              (record {
+              subst (λ (who : Who). MoveAlike scene a b n
+              (step_signal scene n p a.state t d (Some o)) (record {
                 state = record b.state { signals = b.state.signals ++ made who d (Some o) };
                 thought = hear_told mode p t2 (length b.state.signals) no_action 0 (Some o);
                 turn = turns.Moved;
@@ -453,8 +455,8 @@ module _ (laws : InodeLaws) (scene : Scene) (r : Naming) (a b : Moment)
 
       -- a rule that is appended
       appends_alike : (rule : RuleValue)
-          → MoveAlike scene a b n (go_step scene n p a.state t (Some (Appends rule)))
-          (go_step scene n p b.state t2 (Some (Appends rule)))
+          → MoveAlike scene a b n (step_due scene n p a.state t (Some (Appends rule)))
+          (step_due scene n p b.state t2 (Some (Appends rule)))
       appends_alike rule =
           let added : b.state.added ++ record { who = who_at n p t2.mind; rule = rule } ∷ []
           ≡ a.state.added ++ record { who = who_at n p t.mind; rule = rule } ∷ []
@@ -469,15 +471,15 @@ module _ (laws : InodeLaws) (scene : Scene) (r : Naming) (a b : Moment)
       -- the step of a call that makes no event of an inode
       plain_alike : (k : Call)
           → MoveAlike scene a b n
-          (go_step scene n p a.state t (Some (plain_step p.cred.admin k)))
-          (go_step scene n p b.state t2 (Some (step_named r (plain_step p.cred.admin k))))
+          (step_due scene n p a.state t (Some (plain_step p.cred.admin k)))
+          (step_due scene n p b.state t2 (Some (step_named r (plain_step p.cred.admin k))))
       plain_alike (call.Post sem) = signal_alike (deed.Post sem)
       plain_alike (call.Wait sem) = signal_alike (deed.Wait sem)
       plain_alike (call.AddRule rule) = by p.cred.admin
         where
           by : (admin : Bool) → MoveAlike scene a b n
-              (go_step scene n p a.state t (Some (if admin then Appends rule else Nothing)))
-              (go_step scene n p b.state t2
+              (step_due scene n p a.state t (Some (if admin then Appends rule else Nothing)))
+              (step_due scene n p b.state t2
               (Some (step_named r (if admin then Appends rule else Nothing))))
           by true = appends_alike rule
           by false = nothing_alike
@@ -488,15 +490,15 @@ module _ (laws : InodeLaws) (scene : Scene) (r : Naming) (a b : Moment)
     -- the step of a call that asks for an event of its inode
     on_inode : (k : Ask) → g.due.ask ≡ k → (d : Deed) → Suits k d
         → IsUsed (used g.inode) (file_in d)
-        → MoveAlike scene a b n (go_step scene n p a.state t (Some (Does g.inode d)))
-        (go_step scene n p b.state t2 (Some (Does g.inode (deed_named (r g.inode) d))))
+        → MoveAlike scene a b n (step_due scene n p a.state t (Some (Does g.inode d)))
+        (step_due scene n p b.state t2 (Some (Does g.inode (deed_named (r g.inode) d))))
     on_inode k e d suits is = does_alike d (subst (λ (x : Ask). Suits x d) (sym e) suits) is
 
     -- whatever the call asks for
     asked_alike : (k : Ask) → g.due.ask ≡ k
         → MoveAlike scene a b n
-        (go_step scene n p a.state t (Some (step_by p.cred.admin c g k)))
-        (go_step scene n p b.state t2 (Some (step_named r (step_by p.cred.admin c g k))))
+        (step_due scene n p a.state t (Some (step_by p.cred.admin c g k)))
+        (step_due scene n p b.state t2 (Some (step_named r (step_by p.cred.admin c g k))))
     asked_alike (ask.Check func mask) e = check_alike func mask e
     asked_alike ask.Plain e = plain_alike e c
     asked_alike ask.Count e = on_inode ask.Count e (deed.Count g.how) (g.how, refl) tt
@@ -523,8 +525,8 @@ module _ (laws : InodeLaws) (scene : Scene) (r : Naming) (a b : Moment)
 
   -- a task without a call doesn't move
   called_alike : (o : Option Call) → call_at p t.mind ≡ o
-      → MoveAlike scene a b n (go_step scene n p a.state t (step_in p o t.mind))
-      (go_step scene n p b.state t2 (step_in p o t2.mind))
+      → MoveAlike scene a b n (step_due scene n p a.state t (step_in p o t.mind))
+      (step_due scene n p b.state t2 (step_in p o t2.mind))
   called_alike None at = inl (refl, refl)
   called_alike (Some c) at =
       let due = progress_of p.cred.admin c t.mind in
@@ -535,12 +537,13 @@ module _ (laws : InodeLaws) (scene : Scene) (r : Naming) (a b : Moment)
       = λ j. Some (step_by p.cred.admin c (named j) (named j).due.ask) in
       let step = same ∙ ap Some (step_by-named r p.cred.admin c due due.due.ask) in
       subst (λ (x : Option Step). MoveAlike scene a b n
-      (go_step scene n p a.state t (step_in p (Some c) t.mind)) (go_step scene n p b.state t2 x))
+      (step_due scene n p a.state t (step_in p (Some c) t.mind)) (step_due scene n p b.state t2 x))
       (sym step) (asked_alike c at due.due.ask refl)
 
   -- a step of the task
-  pub go_alike : MoveAlike scene a b n (go scene n p a.state t) (go scene n p b.state t2)
-  go_alike = called_alike (call_at p t.mind) refl
+  pub step_alike : MoveAlike scene a b n (step_task scene n p a.state t)
+      (step_task scene n p b.state t2)
+  step_alike = called_alike (call_at p t.mind) refl
 
 -- ---- a turn
 
@@ -580,8 +583,9 @@ turn_alike laws scene r a b alike n =
     by None o at = tt
     by (Some p) None at = tt
     by (Some p) (Some t) at =
-        both_moved scene a b n (go scene n p a.state t) (go scene n p b.state (thought_named r t))
-        (go_alike laws scene r a b alike n p t at)
+        both_moved scene a b n (step_task scene n p a.state t)
+        (step_task scene n p b.state (thought_named r t))
+        (step_alike laws scene r a b alike n p t at)
 
 -- ---- the same moment
 

@@ -9,10 +9,10 @@ use Rattle.order_outcomes.specs.Orders.{moved}
 use Rattle.order_outcomes.specs.counts.Layers.{BothOrNone}
 use Rattle.order_outcomes.specs.counts.Orders.{led}
 use Rattle.order_outcomes.specs.reports.model.History.{Thought, start}
-use Rattle.order_outcomes.specs.reports.model.Scene.{Program, Scene, Station, inode_of}
+use Rattle.order_outcomes.specs.reports.model.Scene.{Program, Scene, ScriptFile, inode_of}
 use Rattle.order_outcomes.specs.reports.model.Turns.{Moment, newborn, start_of}
 use Rattle.order_outcomes.specs.reports.model.events.Inode.{Inode}
-use Rattle.order_outcomes.specs.reports.model.events.Past.{past}
+use Rattle.order_outcomes.specs.reports.model.events.NewestFirst.{newest_first}
 use Rattle.order_outcomes.specs.reports.model.events.declared.told.Event.{Event}
 use Rattle.order_outcomes.specs.reports.model.events.templates.declared.entry.Entry.{Entry}
 use Rattle.order_outcomes.proofs.about_counts.Turns.{led-none}
@@ -54,9 +54,9 @@ start_used i file programs u = at (file == 0) refl u where
   at false e h = let n = starts_unused i file programs in cc
 
 -- a journal with a birth alone is sound
-birth_sound : (inode : Inode) (list : List Entry) (s : Station)
-    → IsSound inode list (past (newborn s))
-unfolding past
+birth_sound : (inode : Inode) (list : List Entry) (s : ScriptFile)
+    → IsSound inode list (newest_first (newborn s))
+unfolding newest_first
 birth_sound inode list s = record {
   files = λ file h. refl;
   collection = tt;
@@ -65,10 +65,10 @@ birth_sound inode list s = record {
 }
 
 -- and alike to itself
-pub birth_alike : (inode : Inode) (list list2 : List Entry) (used : ℕ → Bool) (s : Station)
+pub birth_alike : (inode : Inode) (list list2 : List Entry) (used : ℕ → Bool) (s : ScriptFile)
     → ((file : ℕ) → used file ≡ true → file ≡ 0)
     → IsInodeAlike inode list list2 used (λ file. file) (newborn s) (newborn s)
-unfolding past
+unfolding newest_first
 birth_alike inode list list2 used s zero_used = record {
   sound = birth_sound inode list s;
   sound2 = birth_sound inode list2 s;
@@ -98,11 +98,11 @@ birth_alike inode list list2 used s zero_used = record {
 }
 
 -- the first journal of each inode
-first_journal : (stations : List Station) (i : ℕ) (s : Station) → slice_get stations i ≡ Some s
-    → get_or (map newborn stations) i [] ≡ newborn s
-first_journal stations i s at =
-    get_or_from_slice_get (map newborn stations) i (newborn s) []
-    (slice_get-map newborn stations i ∙ ap (λ (o : Option Station). option_map newborn o) at)
+first_journal : (script_files : List ScriptFile) (i : ℕ) (s : ScriptFile)
+    → slice_get script_files i ≡ Some s → get_or (map newborn script_files) i [] ≡ newborn s
+first_journal script_files i s at =
+    get_or_from_slice_get (map newborn script_files) i (newborn s) []
+    (slice_get-map newborn script_files i ∙ ap (λ (o : Option ScriptFile). option_map newborn o) at)
 
 -- the first moment is alike to itself
 start_alike : (scene : Scene) → IsAlikeBy scene own (start_of scene) (start_of scene)
@@ -113,7 +113,7 @@ start_alike scene = record {
   inodes = λ i s at.
       subst (λ (j : List Event). IsInodeAlike (inode_of scene s) (scene.boot ∷ [])
       (scene.boot ∷ []) (is_used (starts scene.programs) i) (λ file. file) j j)
-      (sym (first_journal scene.stations i s at))
+      (sym (first_journal scene.script_files i s at))
       (birth_alike (inode_of scene s) (scene.boot ∷ []) (scene.boot ∷ [])
       (is_used (starts scene.programs) i) s
       (λ file u. start_used i file scene.programs u));

@@ -5,14 +5,14 @@
 -- first under other names.
 use Rattle.std.specs.Prelude.{◌≡◌, ℕ, ◌+◌, ◌==◌, ◌<◌, ◌≤◌, ◌⊎◌, All, Bool, true, List, [], ◌∷◌, length, map, Option, Some, None, option_map, slice_get}
 use Rattle.std.specs.List.{find}
-use Rattle.order_outcomes.specs.reports.model.Scene.{Scene, Station, inode_of}
+use Rattle.order_outcomes.specs.reports.model.Scene.{Scene, ScriptFile, inode_of}
 use Rattle.order_outcomes.specs.reports.model.Turns.{Moment, journal_at}
 use Rattle.order_outcomes.specs.reports.model.events.Checks.{Check, last_check, no_action}
 use Rattle.order_outcomes.specs.reports.model.events.Files.{execs, held, readers, writers}
 use Rattle.order_outcomes.specs.reports.model.events.Inode.{Inode}
 use Rattle.order_outcomes.specs.reports.model.events.Integrity.{Collection, Digests, attributes, collecting, in_force}
 use Rattle.order_outcomes.specs.reports.model.events.Marks.{must_measure, update}
-use Rattle.order_outcomes.specs.reports.model.events.Past.{past}
+use Rattle.order_outcomes.specs.reports.model.events.NewestFirst.{newest_first}
 use Rattle.order_outcomes.specs.reports.model.events.Semaphores.{posts, waits}
 use Rattle.order_outcomes.specs.reports.model.events.State.{content, metadata, modified_in, modified_since, new, present, span, versions}
 use Rattle.order_outcomes.specs.reports.model.events.Verdicts.{Key, verdict_in_force}
@@ -114,40 +114,48 @@ pub record IsSound (inode : Inode) (list : List Entry) (p : List Event) : Type 0
 -- files that tasks have in the first moment, and `r` gives their names in the second
 pub record IsInodeAlike (inode : Inode) (list list2 : List Entry) (used : ℕ → Bool) (r : ℕ → ℕ)
     (journal journal2 : List Event) : Type 0 where
-  pub sound : IsSound inode list (past journal)
-  pub sound2 : IsSound inode list2 (past journal2)
+  pub sound : IsSound inode list (newest_first journal)
+  pub sound2 : IsSound inode list2 (newest_first journal2)
   -- its files
   pub below : (file : ℕ) → used file ≡ true → file < length journal
   pub below2 : (file : ℕ) → used file ≡ true → r file < length journal2
   pub apart : (f g : ℕ) → used f ≡ true → used g ≡ true → (r f == r g) ≡ (f == g)
-  pub how : (file : ℕ) → used file ≡ true → held (r file) (past journal2) ≡ held file (past journal)
+  pub how : (file : ℕ) → used file ≡ true
+      → held (r file) (newest_first journal2) ≡ held file (newest_first journal)
   pub checks : (file : ℕ) → used file ≡ true
-      → last_check (r file) (past journal2) ≡ last_check file (past journal)
+      → last_check (r file) (newest_first journal2) ≡ last_check file (newest_first journal)
   -- its state
-  pub present_in : present (past journal2) ≡ present (past journal)
-  pub new_in : new (past journal2) ≡ new (past journal)
-  pub versions_in : versions (past journal2) ≡ versions (past journal)
-  pub content_in : content (past journal2) ≡ content (past journal)
-  pub metadata_in : metadata (past journal2) ≡ metadata (past journal)
-  pub attributes_in : attributes inode (past journal2) ≡ attributes inode (past journal)
-  pub writers_in : writers (past journal2) ≡ writers (past journal)
-  pub readers_in : readers (past journal2) ≡ readers (past journal)
-  pub execs_in : execs (past journal2) ≡ execs (past journal)
-  pub must_measure_in : must_measure (past journal2) ≡ must_measure (past journal)
-  pub update_in : update (past journal2) ≡ update (past journal)
-  pub modified : modified_in (span (past journal2)) ≡ modified_in (span (past journal))
-  pub collection : option_map (collection_seen (past journal2)) (collecting inode (past journal2))
-      ≡ option_map (collection_seen (past journal)) (collecting inode (past journal))
-  pub digests : option_map (digests_seen (past journal2)) (in_force inode (past journal2))
-      ≡ option_map (digests_seen (past journal)) (in_force inode (past journal))
+  pub present_in : present (newest_first journal2) ≡ present (newest_first journal)
+  pub new_in : new (newest_first journal2) ≡ new (newest_first journal)
+  pub versions_in : versions (newest_first journal2) ≡ versions (newest_first journal)
+  pub content_in : content (newest_first journal2) ≡ content (newest_first journal)
+  pub metadata_in : metadata (newest_first journal2) ≡ metadata (newest_first journal)
+  pub attributes_in : attributes inode (newest_first journal2)
+      ≡ attributes inode (newest_first journal)
+  pub writers_in : writers (newest_first journal2) ≡ writers (newest_first journal)
+  pub readers_in : readers (newest_first journal2) ≡ readers (newest_first journal)
+  pub execs_in : execs (newest_first journal2) ≡ execs (newest_first journal)
+  pub must_measure_in : must_measure (newest_first journal2) ≡ must_measure (newest_first journal)
+  pub update_in : update (newest_first journal2) ≡ update (newest_first journal)
+  pub modified : modified_in (span (newest_first journal2))
+      ≡ modified_in (span (newest_first journal))
+  pub collection : option_map (collection_seen (newest_first journal2))
+      (collecting inode (newest_first journal2))
+      ≡ option_map (collection_seen (newest_first journal))
+      (collecting inode (newest_first journal))
+  pub digests : option_map (digests_seen (newest_first journal2))
+      (in_force inode (newest_first journal2))
+      ≡ option_map (digests_seen (newest_first journal)) (in_force inode (newest_first journal))
   pub verdicts : (key : Key)
-      → verdict_in_force inode key (past journal2) ≡ verdict_in_force inode key (past journal)
+      → verdict_in_force inode key (newest_first journal2)
+      ≡ verdict_in_force inode key (newest_first journal)
   -- what calls were told
   pub shown : (bytes : List ℕ)
-      → is_listed list2 bytes (past journal2) ≡ is_listed list bytes (past journal)
+      → is_listed list2 bytes (newest_first journal2) ≡ is_listed list bytes (newest_first journal)
   pub told : (task n : ℕ) → verdict_in task n journal2 ≡ verdict_in task n journal
   pub listed : (task n : ℕ)
-      → listed_in list2 task n (past journal2) ≡ listed_in list task n (past journal)
+      → listed_in list2 task n (newest_first journal2)
+      ≡ listed_in list task n (newest_first journal)
 
 -- ---- a moment
 
@@ -155,17 +163,17 @@ pub record IsInodeAlike (inode : Inode) (list list2 : List Entry) (used : ℕ �
 pub record IsAlikeBy (scene : Scene) (r : Naming) (a b : Moment) : Type 0 where
   -- a file that isn't counted yet has no other name, nor has a file that isn't in the scene
   pub none : (i : ℕ) → r i 0 ≡ 0
-  pub elsewhere : (i : ℕ) → slice_get scene.stations i ≡ None → (file : ℕ) → r i file ≡ file
+  pub elsewhere : (i : ℕ) → slice_get scene.script_files i ≡ None → (file : ℕ) → r i file ≡ file
   pub thoughts : b.thoughts ≡ map (thought_named r) a.thoughts
-  pub inodes : (i : ℕ) (s : Station) → slice_get scene.stations i ≡ Some s
+  pub inodes : (i : ℕ) (s : ScriptFile) → slice_get scene.script_files i ≡ Some s
       → IsInodeAlike (inode_of scene s) a.state.list b.state.list (is_used a.thoughts i) (r i)
       (journal_at a.state i) (journal_at b.state i)
   pub lists : AreListsAlike a.state.list b.state.list
   pub added : b.state.added ≡ a.state.added
   -- each semaphore has as many more posts than waits in one moment as in the other
   pub semaphores : (sem : ℕ)
-      → posts sem (past b.state.signals) + waits sem (past a.state.signals)
-      ≡ posts sem (past a.state.signals) + waits sem (past b.state.signals)
+      → posts sem (newest_first b.state.signals) + waits sem (newest_first a.state.signals)
+      ≡ posts sem (newest_first a.state.signals) + waits sem (newest_first b.state.signals)
 
 -- the moments differ only in the names of their files and in the order of their lists
 abbrev pub IsRenamed : Scene → Moment → Moment → Type 0
@@ -177,7 +185,7 @@ IsAlike scene a b = (a ≡ b) ⊎ IsRenamed scene a b
 
 -- the journals of the moment are sound, and its tasks have files that were counted
 pub record AreSound (scene : Scene) (a : Moment) : Type 0 where
-  pub journals : (i : ℕ) (s : Station) → slice_get scene.stations i ≡ Some s
-      → IsSound (inode_of scene s) a.state.list (past (journal_at a.state i))
-  pub files : (i : ℕ) (s : Station) → slice_get scene.stations i ≡ Some s → (file : ℕ)
+  pub journals : (i : ℕ) (s : ScriptFile) → slice_get scene.script_files i ≡ Some s
+      → IsSound (inode_of scene s) a.state.list (newest_first (journal_at a.state i))
+  pub files : (i : ℕ) (s : ScriptFile) → slice_get scene.script_files i ≡ Some s → (file : ℕ)
       → is_used a.thoughts i file ≡ true → file < length (journal_at a.state i)

@@ -1,6 +1,6 @@
 -- Moments that are alike, and moments that aren't.
 use Rattle.std.specs.Prelude.{ℕ, false, true, List, [], ◌∷◌, ◌++◌, codes}
-use Rattle.order_outcomes.specs.Examples.{boot, scene, station, step, task}
+use Rattle.order_outcomes.specs.Examples.{boot, scene, script_file, step, task}
 use Rattle.order_outcomes.specs.reports.model.Scene.{Program, Scene}
 use Rattle.order_outcomes.specs.reports.model.Turns.{Moment, newborn, start_of, turns_of}
 use Rattle.order_outcomes.specs.reports.model.events.declared.deed.Change.TheVariants as change
@@ -30,7 +30,8 @@ after turns = turns_of readers (start_of readers) turns
 -- the first moment with one more event in the journal of the file
 abbrev pub with_event : Deed → Told → Moment
 with_event d t = record (start_of readers) {
-  state = record (start_of readers).state { journals = (newborn station ++ step 0 d t ∷ []) ∷ [] };
+  state = record (start_of readers).state
+      { journals = (newborn script_file ++ step 0 d t ∷ []) ∷ [] };
 }
 
 -- the first moment with more entries in the list

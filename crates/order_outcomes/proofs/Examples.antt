@@ -1,11 +1,11 @@
 -- The examples, each by computing.
 use Rattle.std.proofs.Common.{refl}
 use Rattle.report_text.specs.Numerals.{numeral}
-use Rattle.report_text.specs.model.events.Past.{past}
+use Rattle.report_text.specs.model.events.NewestFirst.{newest_first}
 use Rattle.order_outcomes.specs.Examples.{OrderExamples}
 
 pub examples : OrderExamples
-unfolding past numeral
+unfolding newest_first numeral
 examples = record {
   none = refl;
   post_first = refl;

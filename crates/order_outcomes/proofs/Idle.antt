@@ -7,7 +7,7 @@ use Rattle.run_model.proofs.Idle.{idle_turn}
 use Rattle.report_text.specs.model.History.{Thought}
 use Rattle.report_text.specs.model.Rounds.{moves, moves_at}
 use Rattle.report_text.specs.model.Scene.{Program, Scene}
-use Rattle.report_text.specs.model.Turns.{Moment, State, go, turn, turned}
+use Rattle.report_text.specs.model.Turns.{Moment, State, step_task, turn, turned}
 
 -- the item that stands at a place is put there
 set_same : (ts : List Thought) (n : ℕ) (t : Thought) → slice_get ts n ≡ Some t
@@ -24,7 +24,7 @@ turned_idle scene m n (Some p) (Some t) here still =
     ap (λ (s : State). record {
       state = s;
       thoughts = slice_set m.thoughts n
-          (go scene n p m.state t).thought;
+          (step_task scene n p m.state t).thought;
     }) same.0
     ∙ ap (λ (ts : List Thought). record m { thoughts = ts })
     (ap (slice_set m.thoughts n) same.1 ∙ set_same m.thoughts n t here)

@@ -11,13 +11,13 @@ use Rattle.report_text.specs.model.Ended.{is_done}
 use Rattle.report_text.specs.model.EndedValue.{EndedTaskValue, inodes_ended, tasks_ended}
 use Rattle.report_text.specs.model.History.{Answer, Thought, call_at, hear, hear_in, plain_answer, replied, start, step_at, step_in, who_at}
 use Rattle.report_text.specs.model.Rounds.{is_moved, moves, moves_at}
-use Rattle.report_text.specs.model.Scene.{Program, Scene, Station, decided, inode_of, mode_of, rules_with}
-use Rattle.report_text.specs.model.Turns.{Moment, State, Turned, go, go_check, go_does, go_signal, go_step, hear_told, journal_at, newborn, start_of, state_on, turn, turn_of, turned, turns_of}
+use Rattle.report_text.specs.model.Scene.{Program, Scene, ScriptFile, decided, inode_of, mode_of, rules_with}
+use Rattle.report_text.specs.model.Turns.{Moment, State, Turned, hear_told, journal_at, newborn, start_of, state_on, step_check, step_does, step_due, step_signal, step_task, turn, turn_of, turned, turns_of}
 use Rattle.report_text.specs.model.events.Asked.{outcome}
 use Rattle.report_text.specs.model.events.Checks.{no_action}
 use Rattle.report_text.specs.model.events.EndedInode.{EndedInodeValue, ended_inode}
 use Rattle.report_text.specs.model.events.Inode.{Inode}
-use Rattle.report_text.specs.model.events.Past.{past}
+use Rattle.report_text.specs.model.events.NewestFirst.{newest_first}
 use Rattle.report_text.specs.model.events.Semaphores.{semaphore_says}
 use Rattle.report_text.specs.model.events.State.{metadata}
 use Rattle.report_text.specs.model.events.declared.deed.Deed.{Deed}
@@ -94,34 +94,35 @@ event_grows scene n p s t i inode d action rules below (Some o) is =
     omega (arith, set, more, keeps)
 
 module _ (scene : Scene) (n : ℕ) (p : Program) (s : State) (t : Thought)
-    (fits : length s.journals ≡ length scene.stations) where
-  within : (i : ℕ) (station : Station) → slice_get scene.stations i ≡ Some station
+    (fits : length s.journals ≡ length scene.script_files) where
+  within : (i : ℕ) (script_file : ScriptFile) → slice_get scene.script_files i ≡ Some script_file
       → i < length s.journals
-  within i station at =
-      let below = slice_get_within scene.stations i station at in
+  within i script_file at =
+      let below = slice_get_within scene.script_files i script_file at in
       omega (arith, below, fits)
 
-  does_grows : (i : ℕ) (d : Deed) (o : Option Station) → slice_get scene.stations i ≡ o
-      → is_moved (go_does scene n p s t i o d).turn ≡ true
-      → Grows s t (go_does scene n p s t i o d)
+  does_grows : (i : ℕ) (d : Deed) (o : Option ScriptFile) → slice_get scene.script_files i ≡ o
+      → is_moved (step_does scene n p s t i o d).turn ≡ true
+      → Grows s t (step_does scene n p s t i o d)
   does_grows i d None at is = absurd (true≢false (sym is))
-  does_grows i d (Some station) at is =
-      event_grows scene n p s t i (inode_of scene station) d no_action 0 (within i station at)
-      (outcome (inode_of scene station) s.list d (past (journal_at s i))) is
+  does_grows i d (Some script_file) at is =
+      event_grows scene n p s t i (inode_of scene script_file) d no_action 0
+      (within i script_file at)
+      (outcome (inode_of scene script_file) s.list d (newest_first (journal_at s i))) is
 
-  check_grows : (i file : ℕ) (func : Func) (mask : ℕ) (o : Option Station)
-      → slice_get scene.stations i ≡ o
-      → is_moved (go_check scene n p s t i o file func mask).turn ≡ true
-      → Grows s t (go_check scene n p s t i o file func mask)
+  check_grows : (i file : ℕ) (func : Func) (mask : ℕ) (o : Option ScriptFile)
+      → slice_get scene.script_files i ≡ o
+      → is_moved (step_check scene n p s t i o file func mask).turn ≡ true
+      → Grows s t (step_check scene n p s t i o file func mask)
   check_grows i file func mask None at is = absurd (true≢false (sym is))
-  check_grows i file func mask (Some station) at is =
+  check_grows i file func mask (Some script_file) at is =
       let rules = rules_with scene s.added in
-      let action = decided rules p.cred station.place (metadata (past (journal_at s i))) func
-      mask in
+      let action = decided rules p.cred script_file.place
+      (metadata (newest_first (journal_at s i))) func mask in
       let d = deed.Check file func action (length rules) in
-      event_grows scene n p s t i (inode_of scene station) d action (length rules)
-      (within i station at)
-      (outcome (inode_of scene station) s.list d (past (journal_at s i))) is
+      event_grows scene n p s t i (inode_of scene script_file) d action (length rules)
+      (within i script_file at)
+      (outcome (inode_of scene script_file) s.list d (newest_first (journal_at s i))) is
 
   module _ (c : Call) (at : call_at p t.mind ≡ Some c) where
     abbrev due : Progress
@@ -135,8 +136,8 @@ module _ (scene : Scene) (n : ℕ) (p : Program) (s : State) (t : Thought)
         ∙ plain_heard (mode_of scene) p c t a plain
 
     signal_grows : (d : Deed) (o : Option Told) → due.due.ask ≡ ask.Plain
-        → is_moved (go_signal scene n p s t d o).turn ≡ true
-        → Grows s t (go_signal scene n p s t d o)
+        → is_moved (step_signal scene n p s t d o).turn ≡ true
+        → Grows s t (step_signal scene n p s t d o)
     signal_grows d None plain is = absurd (true≢false (sym is))
     signal_grows d (Some o) plain is =
         let more = replies_grow (record {
@@ -147,42 +148,44 @@ module _ (scene : Scene) (n : ℕ) (p : Program) (s : State) (t : Thought)
         }) plain in
         omega (arith, more)
 
-    nothing_grows : due.due.ask ≡ ask.Plain → Grows s t (go_step scene n p s t (Some Nothing))
+    nothing_grows : due.due.ask ≡ ask.Plain → Grows s t (step_due scene n p s t (Some Nothing))
     nothing_grows plain =
         let more = replies_grow (plain_answer 0 told.Nothing) plain in
         omega (arith, more)
 
     appends_grows : (rule : RuleValue) → due.due.ask ≡ ask.Plain
-        → Grows s t (go_step scene n p s t (Some (Appends rule)))
+        → Grows s t (step_due scene n p s t (Some (Appends rule)))
     appends_grows rule plain =
         let more = replies_grow (plain_answer (length s.added) told.Done) plain in
         omega (arith, more)
 
     -- a call's step on the semaphores or the rules, or on nothing
     plain_grows : (k : Call) → due.due.ask ≡ ask.Plain
-        → is_moved (go_step scene n p s t (Some (plain_step p.cred.admin k))).turn ≡ true
-        → Grows s t (go_step scene n p s t (Some (plain_step p.cred.admin k)))
+        → is_moved (step_due scene n p s t (Some (plain_step p.cred.admin k))).turn ≡ true
+        → Grows s t (step_due scene n p s t (Some (plain_step p.cred.admin k)))
     plain_grows (call.Post sem) plain is =
-        signal_grows (deed.Post sem) (semaphore_says (past s.signals) (deed.Post sem)) plain is
+        signal_grows (deed.Post sem) (semaphore_says (newest_first s.signals) (deed.Post sem))
+        plain is
     plain_grows (call.Wait sem) plain is =
-        signal_grows (deed.Wait sem) (semaphore_says (past s.signals) (deed.Wait sem)) plain is
+        signal_grows (deed.Wait sem) (semaphore_says (newest_first s.signals) (deed.Wait sem))
+        plain is
     plain_grows (call.AddRule rule) plain is = by p.cred.admin
       where
         by : (admin : Bool)
-            → Grows s t (go_step scene n p s t (Some (if admin then Appends rule else Nothing)))
+            → Grows s t (step_due scene n p s t (Some (if admin then Appends rule else Nothing)))
         by true = appends_grows rule plain
         by false = nothing_grows plain
     plain_grows _ plain is = nothing_grows plain
 
-    on_inode : (i : ℕ) (d : Deed) → is_moved (go_step scene n p s t (Some (Does i d))).turn ≡ true
-        → Grows s t (go_step scene n p s t (Some (Does i d)))
-    on_inode i d is = does_grows i d (slice_get scene.stations i) refl is
+    on_inode : (i : ℕ) (d : Deed) → is_moved (step_due scene n p s t (Some (Does i d))).turn ≡ true
+        → Grows s t (step_due scene n p s t (Some (Does i d)))
+    on_inode i d is = does_grows i d (slice_get scene.script_files i) refl is
 
     asked_grows : (k : Ask) → due.due.ask ≡ k
-        → is_moved (go_step scene n p s t (Some (step_by p.cred.admin c due k))).turn ≡ true
-        → Grows s t (go_step scene n p s t (Some (step_by p.cred.admin c due k)))
+        → is_moved (step_due scene n p s t (Some (step_by p.cred.admin c due k))).turn ≡ true
+        → Grows s t (step_due scene n p s t (Some (step_by p.cred.admin c due k)))
     asked_grows (ask.Check func mask) e is =
-        check_grows due.inode due.file func mask (slice_get scene.stations due.inode) refl is
+        check_grows due.inode due.file func mask (slice_get scene.script_files due.inode) refl is
     asked_grows ask.Plain e is = plain_grows c e is
     asked_grows ask.Count e is = on_inode due.inode (deed.Count due.how) is
     asked_grows (ask.Take slot) e is = on_inode due.inode (deed.Take due.file) is
@@ -199,21 +202,21 @@ module _ (scene : Scene) (n : ℕ) (p : Program) (s : State) (t : Thought)
     asked_grows ask.CloseFinish e is = on_inode due.inode (deed.CloseFinish due.file) is
 
   called_grows : (o : Option Call) → call_at p t.mind ≡ o
-      → is_moved (go_step scene n p s t (step_in p o t.mind)).turn ≡ true
-      → Grows s t (go_step scene n p s t (step_in p o t.mind))
+      → is_moved (step_due scene n p s t (step_in p o t.mind)).turn ≡ true
+      → Grows s t (step_due scene n p s t (step_in p o t.mind))
   called_grows None at is = absurd (true≢false (sym is))
   called_grows (Some c) at is =
       asked_grows c at (progress_of p.cred.admin c t.mind).due.ask refl is
 
   -- a step that moves
-  go_grows : is_moved (go scene n p s t).turn ≡ true → Grows s t (go scene n p s t)
-  go_grows is = called_grows (call_at p t.mind) refl is
+  step_grows : is_moved (step_task scene n p s t).turn ≡ true → Grows s t (step_task scene n p s t)
+  step_grows is = called_grows (call_at p t.mind) refl is
 
 -- ---- a moment
 
 -- one journal for each inode, and one position for each task
 pub record Fits (scene : Scene) (m : Moment) : Type 0 where
-  pub journals : length m.state.journals ≡ length scene.stations
+  pub journals : length m.state.journals ≡ length scene.script_files
   pub thoughts : length m.thoughts ≡ length scene.programs
 
 abbrev replies_of : Thought → ℕ
@@ -224,7 +227,7 @@ abbrev pub size : Moment → ℕ
 size m = sum_by length m.state.journals + sum_by replies_of m.thoughts
 
 -- the events of the inodes are those of their journals
-inode_sizes : (scene : Scene) (ss : List Station) (js : List (List Event))
+inode_sizes : (scene : Scene) (ss : List ScriptFile) (js : List (List Event))
     → length js ≡ length ss
     → sum_by (λ (i : EndedInodeValue). length i.journal) (inodes_ended scene ss js)
     ≡ sum_by length js
@@ -252,7 +255,7 @@ task_sizes (p ∷ ps) (t ∷ ts) e =
 pub made_is : (scene : Scene) (m : Moment) → Fits scene m
     → (made_of (left_at scene m)).events + (made_of (left_at scene m)).replies ≡ size m
 made_is scene m fits = λ i.
-    inode_sizes scene scene.stations m.state.journals fits.journals i
+    inode_sizes scene scene.script_files m.state.journals fits.journals i
     + task_sizes scene.programs m.thoughts fits.thoughts i
 
 -- a turn that moves its task
@@ -263,11 +266,11 @@ turned_grows scene m n fits None o at is = absurd (true≢false (sym is))
 turned_grows scene m n fits (Some p) None at is = absurd (true≢false (sym is))
 turned_grows scene m n fits (Some p) (Some t) at is =
     let below = slice_get_within m.thoughts n t at in
-    let after = (go scene n p m.state t).thought in
+    let after = (step_task scene n p m.state t).thought in
     let set = sum_by-set replies_of m.thoughts n after t below in
     let old : length (slice_index_or m.thoughts n t).replies ≡ length t.replies
     = ap replies_of (get_or_from_slice_get m.thoughts n t t at) in
-    let grows = go_grows scene n p m.state t fits.journals is in
+    let grows = step_grows scene n p m.state t fits.journals is in
     omega (arith, set, old, grows)
 
 pub turn_grows : (scene : Scene) (m : Moment) (n : ℕ) → Fits scene m → moves scene m n ≡ true
@@ -278,21 +281,21 @@ turn_grows scene m n fits is =
 -- ---- the journals and the positions of a moment that turns lead to
 
 step_fits : (scene : Scene) (n : ℕ) (p : Program) (s : State) (t : Thought) (k : Option Step)
-    → length (go_step scene n p s t k).state.journals ≡ length s.journals
+    → length (step_due scene n p s t k).state.journals ≡ length s.journals
 step_fits scene n p s t None = refl
 step_fits scene n p s t (Some Nothing) = refl
-step_fits scene n p s t (Some (Does i d)) = by (slice_get scene.stations i)
+step_fits scene n p s t (Some (Does i d)) = by (slice_get scene.script_files i)
   where
-    by : (o : Option Station)
-        → length (go_does scene n p s t i o d).state.journals ≡ length s.journals
+    by : (o : Option ScriptFile)
+        → length (step_does scene n p s t i o d).state.journals ≡ length s.journals
     by None = refl
-    by (Some station) = length-set s.journals i _
-step_fits scene n p s t (Some (Checks i file func mask)) = by (slice_get scene.stations i)
+    by (Some script_file) = length-set s.journals i _
+step_fits scene n p s t (Some (Checks i file func mask)) = by (slice_get scene.script_files i)
   where
-    by : (o : Option Station)
-        → length (go_check scene n p s t i o file func mask).state.journals ≡ length s.journals
+    by : (o : Option ScriptFile)
+        → length (step_check scene n p s t i o file func mask).state.journals ≡ length s.journals
     by None = refl
-    by (Some station) = length-set s.journals i _
+    by (Some script_file) = length-set s.journals i _
 step_fits scene n p s t (Some (Signals d)) = refl
 step_fits scene n p s t (Some (Appends rule)) = refl
 
@@ -311,7 +314,7 @@ turn_fits scene m n fits =
 
 pub start_fits : (scene : Scene) → Fits scene (start_of scene)
 start_fits scene = record {
-  journals = length-map scene.stations newborn;
+  journals = length-map scene.script_files newborn;
   thoughts = length-map scene.programs (λ (p : Program). start);
 }
 

@@ -2,7 +2,7 @@
 use Rattle.std.proofs.Common.{◌≡◌, ℕ, ◌+◌, ◌<◌, ◌≤◌, List, [], ◌∷◌, ◌++◌, drop, get_or, length, take, Option, refl, sym, ap, ◌∙◌, append_assoc}
 use Rattle.std.specs.Option.{option_or}
 use Rattle.std.proofs.lemmas.List.{append-nil, at_drop_all, at_drop_more, take_more}
-use Rattle.report_text.specs.model.events.Past.{past, past_more}
+use Rattle.report_text.specs.model.events.NewestFirst.{newest_first, past_more}
 use Rattle.report_text.specs.model.events.declared.told.Event.{Event}
 
 -- ---- the first item that gives something
@@ -58,13 +58,14 @@ module _ {X : Type 0} (F : ℕ → List X → List ℕ) (f : ℕ → X → List 
 -- ---- journals
 
 -- before the first event there are none
-pub past_none : past [] ≡ []
-unfolding past
+pub past_none : newest_first [] ≡ []
+unfolding newest_first
 past_none = refl
 
 -- one event more is the newest
 pub past_next : (journal : List Event) (k : ℕ) (e : Event) → k < length journal
-    → e ≡ get_or journal k e → past (take (k + 1) journal) ≡ e ∷ past (take k journal)
+    → e ≡ get_or journal k e
+    → newest_first (take (k + 1) journal) ≡ e ∷ newest_first (take k journal)
 past_next journal k e lt is =
-    ap past (take_more journal k e lt ∙ ap (λ x. take k journal ++ x ∷ []) (sym is))
+    ap newest_first (take_more journal k e lt ∙ ap (λ x. take k journal ++ x ∷ []) (sym is))
     ∙ past_more (take k journal) e

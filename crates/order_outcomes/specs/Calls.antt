@@ -3,7 +3,7 @@
 use Rattle.std.specs.Prelude.{ℕ, ◌==◌, Bool, true, false, ◌&&◌, ◌||◌, not, List, [], ◌∷◌, Option, Some, None, option_map, slice_get, bytes_eq, if◌then◌else◌}
 use Rattle.std.specs.Option.{option_or}
 use Rattle.report_text.specs.model.events.EndedInode.{EndedInodeValue}
-use Rattle.report_text.specs.model.events.Past.{past}
+use Rattle.report_text.specs.model.events.NewestFirst.{newest_first}
 use Rattle.report_text.specs.model.events.Says.{place_of}
 use Rattle.report_text.specs.model.events.State.{content}
 use Rattle.report_text.specs.model.events.declared.deed.Deed.{Deed}
@@ -75,4 +75,4 @@ listed_in list task call (e ∷ before) =
 abbrev pub listed_of : List Entry → ℕ → ℕ → List EndedInodeValue → Option Bool
 listed_of list task call [] = None
 listed_of list task call (i ∷ is) =
-    option_or (listed_in list task call (past i.journal)) (listed_of list task call is)
+    option_or (listed_in list task call (newest_first i.journal)) (listed_of list task call is)

@@ -1,6 +1,6 @@
 -- Scripts whose orders are worked out by hand.
 use Rattle.std.specs.Prelude.{◌≡◌, ℕ, true, false, List, [], ◌∷◌, codes, Some, None, refl}
-use Rattle.report_text.specs.model.Scene.{Program, Scene, Station}
+use Rattle.report_text.specs.model.Scene.{Program, Scene, ScriptFile}
 use Rattle.report_text.specs.model.events.declared.deed.How.TheVariants as how
 use Rattle.report_text.specs.model.events.declared.settings.Settings.{Settings}
 use Rattle.report_text.specs.model.events.hashes.Digest.{zero_digest}
@@ -37,8 +37,8 @@ settings = record {
 }
 
 -- the file /a with the content `abc`
-abbrev pub station : Station
-station = record {
+abbrev pub script_file : ScriptFile
+script_file = record {
   path = codes "/a";
   birth = record {
     present = true;
@@ -72,7 +72,7 @@ abbrev pub scene : List Program → Scene
 scene programs = record {
   settings = settings;
   boot = boot;
-  stations = station ∷ [];
+  script_files = script_file ∷ [];
   rules = [];
   programs = programs;
 }

@@ -1,7 +1,7 @@
 // What the journals of a run say of one call.
 
 ghost use Rattle.std.specs.Prelude.{◌≡◌, if◌then◌else◌, ◌&&◌, ◌||◌, Some, IfOk, OnOk};
-ghost use Rattle.report_text.specs.model.events.Past.{past};
+ghost use Rattle.report_text.specs.model.events.NewestFirst.{newest_first};
 ghost use Rattle.report_text.specs.model.events.State.{content_after};
 ghost use Rattle.report_text.specs.model.events.pages.Content.{overwritten};
 ghost use Rattle.order_outcomes.specs.Calls.{is_by, is_listed, is_read, listed_in, listed_of, place_told, shows_at, verdict_by, verdict_in, verdict_of, verdict_told};
@@ -106,7 +106,7 @@ fn listed_with(list: &[Entry], content: &Content, event: &Event, listed: bool) -
 
 // Whether a grant of these events has added or found an entry with the digest of the content.
 fn is_listed(list: &[Entry], content: &Content, before: &[Event]) -> bool
-    ensures { result ≡ is_listed list.now content.now (past before.now) }
+    ensures { result ≡ is_listed list.now content.now (newest_first before.now) }
 {
     let mut listed = false;
     for event in before {
@@ -173,7 +173,7 @@ fn listed_at(
     old: Option<bool>,
 ) -> Option<bool>
     ensures { result ≡ (if is_by task call event.now && is_read event.now.deed
-        then Some (is_listed list.now content.now (past before.now)) else old) }
+        then Some (is_listed list.now content.now (newest_first before.now)) else old) }
 {
     if is_by(event, task, call) && is_read(&event.deed) {
         Some(is_listed(list, content, before))
@@ -189,7 +189,8 @@ fn listed_in(
     task: usize,
     call: usize,
 ) -> Result<Option<bool>, OutOfMemory>
-    ensures { IfOk result (λ listed. listed ≡ listed_in list.now task call (past journal.now)) }
+    ensures { IfOk result
+        (λ listed. listed ≡ listed_in list.now task call (newest_first journal.now)) }
 {
     let mut content = Content::new(alloc);
     let mut listed = None;

@@ -74,7 +74,7 @@ module _ (scene : Scene) (turns : List ℕ) (s : ScriptValue) (is : IsScriptOf s
 
 -- ---- sights
 
--- each turn leaves a journal for each station
+-- each turn leaves a journal for each file
 turns_fit : (scene : Scene) (m : Moment) (turns : List ℕ) → Fits scene m
     → Fits scene (turns_of scene m turns)
 turns_fit scene m [] fits = fits

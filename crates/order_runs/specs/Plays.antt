@@ -43,7 +43,7 @@ empty_scene = record {
     sig = [];
     violation = false;
   };
-  stations = [];
+  script_files = [];
   rules = [];
   programs = [];
 }

@@ -2,7 +2,7 @@
 use Rattle.std.proofs.Common.{◌≡◌, ℕ, List, [], ◌∷◌, ap, sym, subst, ◌∙◌}
 use Rattle.std.specs.Prelude.{All}
 use Rattle.inode_events.specs.EndedInode.{EndedInodeValue}
-use Rattle.inode_events.specs.Past.{past}
+use Rattle.inode_events.specs.NewestFirst.{newest_first}
 use Rattle.inode_events.specs.declared.told.Event.{Event}
 use Rattle.inode_events.specs.templates.declared.entry.Entry.{Entry}
 use Rattle.order_sights.specs.Inodes.{AreFilesSame, AreJournalsSame}
@@ -14,7 +14,8 @@ use Rattle.order_sights.specs.declared.pairs.Pair.{Pair}
 pub journals_same : (list list2 : List Entry) (pairs : List Pair) (i : ℕ) (x y : EndedInodeValue)
     (first second : List Event) (here there : List EndedInodeValue) → first ≡ x.journal
     → second ≡ y.journal → here ≡ x ∷ [] → there ≡ y ∷ [] → AreFilesSame pairs i first second
-    → AreEntriesSame list list2 first second → taken (past second) ≡ taken (past first)
+    → AreEntriesSame list list2 first second
+    → taken (newest_first second) ≡ taken (newest_first first)
     → All (IsCallSame list list2 here there) first
     → All (IsCallSame list list2 here there) second → AreJournalsSame list list2 pairs i x y
 journals_same list list2 pairs i x y first second here there is is2 alone alone2 files entries same
@@ -23,8 +24,8 @@ journals_same list list2 pairs i x y first second here there is is2 alone alone2
           (subst (λ (j : List Event). AreFilesSame pairs i j second) is files);
       entries = subst (λ (j : List Event). AreEntriesSame list list2 x.journal j) is2
           (subst (λ (j : List Event). AreEntriesSame list list2 j second) is entries);
-      taken = ap (λ (j : List Event). taken (past j)) (sym is2) ∙ same
-          ∙ ap (λ (j : List Event). taken (past j)) is;
+      taken = ap (λ (j : List Event). taken (newest_first j)) (sym is2) ∙ same
+          ∙ ap (λ (j : List Event). taken (newest_first j)) is;
       calls = at x.journal (subst
           (λ (j : List Event). All (IsCallSame list list2 here there) j) is calls);
       calls2 = at y.journal (subst

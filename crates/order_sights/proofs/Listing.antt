@@ -8,7 +8,7 @@ use Rattle.std.proofs.lemmas.List.{reverse-append}
 use Rattle.std.proofs.lemmas.List.Elements.{All-head, All-tail}
 use Rattle.std.proofs.lemmas.List.Folds.{list_any-append}
 use Rattle.std.proofs.lemmas.Option.{none-some, same_Some}
-use Rattle.inode_events.specs.Past.{past}
+use Rattle.inode_events.specs.NewestFirst.{newest_first}
 use Rattle.inode_events.specs.declared.told.Event.{Event}
 use Rattle.inode_events.specs.templates.declared.entry.Entry.{Entry}
 use Rattle.order_alike.specs.Alike.{places_in}
@@ -99,13 +99,14 @@ shown_there list list2 bytes (x ∷ xs) places2 all h =
 
 -- journals whose grants report the same entries have shown the same bytes
 pub shown_same : (list list2 : List Entry) (j j2 : List Event) → AreEntriesSame list list2 j j2
-    → (bytes : List ℕ) → is_listed list2 bytes (past j2) ≡ is_listed list bytes (past j)
+    → (bytes : List ℕ)
+    → is_listed list2 bytes (newest_first j2) ≡ is_listed list bytes (newest_first j)
 shown_same list list2 j j2 h bytes =
-    listed_places list2 bytes (past j2)
+    listed_places list2 bytes (newest_first j2)
     ∙ ap (shown_in list2 bytes) (sym h.told2) ∙ shown_any list2 bytes h.places2
     ∙ both_ways (list_any (shows_place list2 bytes) h.places2)
     (list_any (shows_place list bytes) h.places)
     (shown_there list2 list bytes h.places2 h.places h.back)
     (shown_there list list2 bytes h.places h.places2 h.there)
-    ∙ sym (listed_places list bytes (past j) ∙ ap (shown_in list bytes) (sym h.told)
+    ∙ sym (listed_places list bytes (newest_first j) ∙ ap (shown_in list bytes) (sym h.told)
     ∙ shown_any list bytes h.places)

@@ -11,7 +11,7 @@ use Rattle.inode_events.specs.Files.{held}
 use Rattle.inode_events.specs.Inode.{Inode}
 use Rattle.inode_events.specs.Integrity.{attributes, collecting, in_force}
 use Rattle.inode_events.specs.Legal.{EachFollows}
-use Rattle.inode_events.specs.Past.{past}
+use Rattle.inode_events.specs.NewestFirst.{newest_first}
 use Rattle.inode_events.specs.Semaphores.{posts, waits}
 use Rattle.inode_events.specs.State.{content, modified_since}
 use Rattle.inode_events.specs.Verdicts.{Key, verdict_in_force}
@@ -33,10 +33,10 @@ use Rattle.order_outcomes.specs.Orders.{left_at}
 use Rattle.run_model.specs.Ended.{answered, answered_by, how_many, posted, posts_to, waited, waits_for}
 use Rattle.run_model.specs.EndedValue.{EndedValue, inodes_ended}
 use Rattle.run_model.specs.History.{Thought}
-use Rattle.run_model.specs.Scene.{Program, Scene, Station, inode_of}
+use Rattle.run_model.specs.Scene.{Program, Scene, ScriptFile, inode_of}
 use Rattle.run_model.specs.Turns.{Moment, State, journal_at}
 use Rattle.task_core.specs.Cells.{IsCellAt}
-use Rattle.task_core.specs.worlds.WorldConsts.{Site, inode_in, station_of}
+use Rattle.task_core.specs.worlds.WorldConsts.{InodeConsts, inode_in, script_file_of}
 use Rattle.task_core.specs.worlds.Runs.{thought_of}
 use Rattle.order_sights.specs.Inodes.{AreFilesSame, AreJournalsSame, FitsIfThere, IsCellSame, IsPairFit}
 use Rattle.order_sights.specs.Pairs.{AreThoughtsPaired, are_apart, are_within, has_pair, named}
@@ -56,27 +56,27 @@ use Rattle.order_sights.proofs.Seen.{collection_is, force_is, has_begun, have_be
 module _ (inode : Inode) (list list2 : List Entry) (pairs : List Pair) (i : ℕ) (j j2 : List Event)
     (used : ℕ → Bool) (apart : are_apart pairs ≡ true)
     (used_is : (f : ℕ) → used f ≡ true → (g : ℕ) × (has_pair pairs i f g ≡ true))
-    (follows : EachFollows inode (past j)) (follows2 : EachFollows inode (past j2))
+    (follows : EachFollows inode (newest_first j)) (follows2 : EachFollows inode (newest_first j2))
     (a b : CellValue) (cells : IsCellSame a b) (is : a.list ≡ j) (is2 : b.list ≡ j2)
     (own : a.inode ≡ inode) (own2 : b.inode ≡ inode)
     (h : AreJournalsSame list list2 pairs i (ended_inode inode j) (ended_inode inode j2)) where
-  state : IsState inode (past j) cells.first
-  state = subst (λ (x : Inode). IsState x (past j) cells.first) own
-      (subst (λ (x : List Event). IsState a.inode (past x) cells.first) is cells.state)
+  state : IsState inode (newest_first j) cells.first
+  state = subst (λ (x : Inode). IsState x (newest_first j) cells.first) own
+      (subst (λ (x : List Event). IsState a.inode (newest_first x) cells.first) is cells.state)
 
-  state2 : IsState inode (past j2) cells.second
-  state2 = subst (λ (x : Inode). IsState x (past j2) cells.second) own2
-      (subst (λ (x : List Event). IsState b.inode (past x) cells.second) is2 cells.state2)
+  state2 : IsState inode (newest_first j2) cells.second
+  state2 = subst (λ (x : Inode). IsState x (newest_first j2) cells.second) own2
+      (subst (λ (x : List Event). IsState b.inode (newest_first x) cells.second) is2 cells.state2)
 
-  same_content : content (past j2) ≡ content (past j)
-  same_content = ap (λ (x : List Event). content (past x)) (sym is2) ∙ cells.content
-      ∙ ap (λ (x : List Event). content (past x)) is
+  same_content : content (newest_first j2) ≡ content (newest_first j)
+  same_content = ap (λ (x : List Event). content (newest_first x)) (sym is2) ∙ cells.content
+      ∙ ap (λ (x : List Event). content (newest_first x)) is
 
-  fresh : Fresh inode (past j)
-  fresh = freshness_lem inode (past j) follows
+  fresh : Fresh inode (newest_first j)
+  fresh = freshness_lem inode (newest_first j) follows
 
-  fresh2 : Fresh inode (past j2)
-  fresh2 = freshness_lem inode (past j2) follows2
+  fresh2 : Fresh inode (newest_first j2)
+  fresh2 = freshness_lem inode (newest_first j2) follows2
 
   -- the places of a journal are in the list
   placed : (l : List Entry) (p : List Event) (places : List ℕ) → reverse places ≡ places_in p
@@ -85,22 +85,25 @@ module _ (inode : Inode) (list list2 : List Entry) (pairs : List Pair) (i : ℕ)
       subst (λ (ps : List ℕ). All (λ place. place < length l) ps) told
       (All-reverse (λ place. place < length l) places below)
 
-  sound : IsSound inode list (past j)
+  sound : IsSound inode list (newest_first j)
   sound = record {
     files = λ file le. unchecked_beyond file (length j) j h.files.checks
         (subst (λ n. n ≤ file) (length_past j) le);
-    collection = has_begun inode (past j) (collecting inode (past j)) fresh.collection_is;
-    digests = have_begun inode (past j) (in_force inode (past j)) fresh.digests_is;
-    places = placed list (past j) h.entries.places h.entries.told h.entries.below;
+    collection = has_begun inode (newest_first j) (collecting inode (newest_first j))
+        fresh.collection_is;
+    digests = have_begun inode (newest_first j) (in_force inode (newest_first j)) fresh.digests_is;
+    places = placed list (newest_first j) h.entries.places h.entries.told h.entries.below;
   }
 
-  sound2 : IsSound inode list2 (past j2)
+  sound2 : IsSound inode list2 (newest_first j2)
   sound2 = record {
     files = λ file le. unchecked_beyond file (length j2) j2 h.files.checks2
         (subst (λ n. n ≤ file) (length_past j2) le);
-    collection = has_begun inode (past j2) (collecting inode (past j2)) fresh2.collection_is;
-    digests = have_begun inode (past j2) (in_force inode (past j2)) fresh2.digests_is;
-    places = placed list2 (past j2) h.entries.places2 h.entries.told2 h.entries.below2;
+    collection = has_begun inode (newest_first j2) (collecting inode (newest_first j2))
+        fresh2.collection_is;
+    digests = have_begun inode (newest_first j2) (in_force inode (newest_first j2))
+        fresh2.digests_is;
+    places = placed list2 (newest_first j2) h.entries.places2 h.entries.told2 h.entries.below2;
   }
 
   -- what the pair of a used file says
@@ -126,9 +129,9 @@ module _ (inode : Inode) (list list2 : List Entry) (pairs : List Pair) (i : ℕ)
     apart = λ f g u u2. let x = used_is f u in let y = used_is g u2 in
         named_apart pairs apart i f g x.0 y.0 x.1 y.1;
     how = λ f u. let x = fit_of f u in
-        ap (λ n. held n (past j2)) x.1.0 ∙ x.1.1.how;
+        ap (λ n. held n (newest_first j2)) x.1.0 ∙ x.1.1.how;
     checks = λ f u. let x = fit_of f u in
-        ap (λ n. last_check n (past j2)) x.1.0 ∙ x.1.1.check;
+        ap (λ n. last_check n (newest_first j2)) x.1.0 ∙ x.1.1.check;
     present_in = sym state2.marks.present ∙ ap (λ (m : Marks). m.present) cells.same.marks
         ∙ state.marks.present;
     new_in = sym state2.marks.new ∙ ap (λ (m : Marks). m.new) cells.same.marks
@@ -138,30 +141,31 @@ module _ (inode : Inode) (list list2 : List Entry) (pairs : List Pair) (i : ℕ)
     content_in = same_content;
     metadata_in = sym state2.meta ∙ cells.same.meta ∙ state.meta;
     attributes_in =
-        (λ k. attributes (sym own2 k) (past (sym is2 k)))
+        (λ k. attributes (sym own2 k) (newest_first (sym is2 k)))
         ∙ cells.attributes
-        ∙ (λ k. attributes (own k) (past (is k)));
+        ∙ (λ k. attributes (own k) (newest_first (is k)));
     writers_in = sym state2.counts.writers ∙ ap (λ (m : Counts). m.writers) cells.same.counts
         ∙ state.counts.writers;
     readers_in = sym state2.counts.readers ∙ ap (λ (m : Counts). m.readers) cells.same.counts
         ∙ state.counts.readers;
     execs_in = sym state2.counts.execs ∙ ap (λ (m : Counts). m.execs) cells.same.counts
         ∙ state.counts.execs;
-    must_measure_in = sym state2.marks.must ∙ ap (λ (m : Marks). m.must) cells.same.marks
-        ∙ state.marks.must;
+    must_measure_in =
+        sym state2.marks.must_measure ∙ ap (λ (m : Marks). m.must_measure) cells.same.marks
+        ∙ state.marks.must_measure;
     update_in = sym state2.marks.update ∙ ap (λ (m : Marks). m.update) cells.same.marks
         ∙ state.marks.update;
     modified = sym state2.writes.in_span ∙ cells.same.in_span ∙ state.writes.in_span;
-    collection = collection_is inode (past j) (past j2) cells.first.writes.last
+    collection = collection_is inode (newest_first j) (newest_first j2) cells.first.writes.last
         cells.second.writes.last state.writes.since state2.writes.since h.taken
-        cells.first.collecting cells.second.collecting (collecting inode (past j))
-        (collecting inode (past j2)) state.collecting state2.collecting cells.same.collecting
-        (taken_is inode (past j)) (taken_is inode (past j2));
-    digests = ap (option_map (digests_seen (past j2))) (sym state2.in_force)
-        ∙ force_is (past j2) cells.second.writes.last state2.writes.since cells.second.in_force
-        ∙ cells.same.force
-        ∙ sym (force_is (past j) cells.first.writes.last state.writes.since cells.first.in_force)
-        ∙ ap (option_map (digests_seen (past j))) state.in_force;
+        cells.first.collecting cells.second.collecting (collecting inode (newest_first j))
+        (collecting inode (newest_first j2)) state.collecting state2.collecting
+        cells.same.collecting (taken_is inode (newest_first j)) (taken_is inode (newest_first j2));
+    digests = ap (option_map (digests_seen (newest_first j2))) (sym state2.in_force)
+        ∙ force_is (newest_first j2) cells.second.writes.last state2.writes.since
+        cells.second.in_force ∙ cells.same.force
+        ∙ sym (force_is (newest_first j) cells.first.writes.last state.writes.since
+        cells.first.in_force) ∙ ap (option_map (digests_seen (newest_first j))) state.in_force;
     verdicts = λ key. state2.verdicts key ∙ ap (found key) cells.same.verdicts
         ∙ sym (state.verdicts key);
     shown = shown_same list list2 j j2 h.entries;
@@ -188,7 +192,7 @@ answered_named r test (p ∷ ps) (t ∷ ts) =
 -- ---- what a sight shows
 
 -- the inode of a number, as it is left
-ended_at : (scene : Scene) (ss : List Station) (js : List (List Event)) (i : ℕ) (s : Station)
+ended_at : (scene : Scene) (ss : List ScriptFile) (js : List (List Event)) (i : ℕ) (s : ScriptFile)
     (j : List Event) → slice_get ss i ≡ Some s → slice_get js i ≡ Some j
     → slice_get (inodes_ended scene ss js) i ≡ Some (ended_inode (inode_of scene s) j)
 ended_at scene [] js i s j at at2 = absurd (none-some s at)
@@ -197,8 +201,8 @@ ended_at scene (x ∷ ss) (y ∷ js) zero s j at at2 =
     (λ k. Some (ended_inode (inode_of scene (same_Some x s at k)) (same_Some y j at2 k)))
 ended_at scene (x ∷ ss) (y ∷ js) (suc i) s j at at2 = ended_at scene ss js i s j at at2
 
--- there are as many as there are stations
-ended_length : (scene : Scene) (ss : List Station) (js : List (List Event))
+-- there are as many as there are files
+ended_length : (scene : Scene) (ss : List ScriptFile) (js : List (List Event))
     → length js ≡ length ss → length (inodes_ended scene ss js) ≡ length ss
 ended_length scene [] js even = refl
 ended_length scene (x ∷ ss) [] even = absurd (omega (arith, even))
@@ -209,11 +213,11 @@ module _ (scene : Scene) (m : Moment) (s : Sight) (sight : IsSight scene m s) wh
   state_is : s.world.state ≡ m.state
   state_is = ap (λ (x : Moment). x.state) sight.moment_is
 
-  pub length_is : length s.ended.inodes ≡ length scene.stations
+  pub length_is : length s.ended.inodes ≡ length scene.script_files
   length_is = ap (λ (e : EndedValue). length e.inodes) sight.left
-      ∙ ended_length scene scene.stations m.state.journals sight.even
+      ∙ ended_length scene scene.script_files m.state.journals sight.even
 
-  module _ (i : ℕ) (st : Station) (at : slice_get scene.stations i ≡ Some st) (c : CellValue)
+  module _ (i : ℕ) (st : ScriptFile) (at : slice_get scene.script_files i ≡ Some st) (c : CellValue)
       (cell : IsCellAt s.world.consts s.world.state i (Some c)) where
     pub journal_is : slice_get m.state.journals i ≡ Some c.list
     journal_is = ap (λ (x : State). slice_get x.journals i) (sym state_is) ∙ cell.0
@@ -221,24 +225,24 @@ module _ (scene : Scene) (m : Moment) (s : Sight) (sight : IsSight scene m s) wh
     pub journal_there : journal_at m.state i ≡ c.list
     journal_there = get_or_from_slice_get m.state.journals i c.list [] journal_is
 
-    station_is : station_of s.world.consts cell.1.0 ≡ st
-    station_is = same_Some (station_of s.world.consts cell.1.0) st
-        (sym (slice_get-map (station_of s.world.consts) s.world.consts.sites i
-        ∙ ap (option_map (station_of s.world.consts)) cell.1.1.0)
-        ∙ ap (λ (x : Scene). slice_get x.stations i) sight.scene_is ∙ at)
+    script_file_is : script_file_of s.world.consts cell.1.0 ≡ st
+    script_file_is = same_Some (script_file_of s.world.consts cell.1.0) st
+        (sym (slice_get-map (script_file_of s.world.consts) s.world.consts.each_inode i
+        ∙ ap (option_map (script_file_of s.world.consts)) cell.1.1.0)
+        ∙ ap (λ (x : Scene). slice_get x.script_files i) sight.scene_is ∙ at)
 
     pub inode_is : c.inode ≡ inode_of scene st
     inode_is = cell.1.1.1 ∙ (λ k. record {
-      path = (ap (λ (x : Station). x.path) station_is) k;
+      path = (ap (λ (x : ScriptFile). x.path) script_file_is) k;
       settings = (ap (λ (x : Scene). x.settings) sight.scene_is) k;
-      birth = (ap (λ (x : Station). x.birth) station_is) k;
+      birth = (ap (λ (x : ScriptFile). x.birth) script_file_is) k;
     })
 
     pub ended_is : slice_get s.ended.inodes i ≡ Some (ended_inode (inode_of scene st) c.list)
     ended_is = ap (λ (e : EndedValue). slice_get e.inodes i) sight.left
-        ∙ ended_at scene scene.stations m.state.journals i st c.list at journal_is
+        ∙ ended_at scene scene.script_files m.state.journals i st c.list at journal_is
 
-    pub follows_is : EachFollows (inode_of scene st) (past c.list)
+    pub follows_is : EachFollows (inode_of scene st) (newest_first c.list)
     follows_is = (sight.finished.reached.legal.follows i st c.list at journal_is).0
 
 -- ---- moments
@@ -280,7 +284,8 @@ module _ (scene : Scene) (m n : Moment) (a b : Sight) (one : IsSight scene m a)
   rules = sym (ap (λ (e : EndedValue). e.rules) two.left) ∙ added2 ∙ sym added
       ∙ ap (λ (e : EndedValue). e.rules) one.left
 
-  same_posted : (sem : ℕ) → posts sem (past n.state.signals) ≡ posts sem (past m.state.signals)
+  same_posted : (sem : ℕ)
+      → posts sem (newest_first n.state.signals) ≡ posts sem (newest_first m.state.signals)
   same_posted sem =
       (count_past sem n.state.signals).0
       ∙ sym (counted_when_reached scene n two.finished.reached sem).0
@@ -290,7 +295,8 @@ module _ (scene : Scene) (m n : Moment) (a b : Sight) (one : IsSight scene m a)
       ∙ (counted_when_reached scene m one.finished.reached sem).0
       ∙ sym (count_past sem m.state.signals).0
 
-  same_waited : (sem : ℕ) → waits sem (past n.state.signals) ≡ waits sem (past m.state.signals)
+  same_waited : (sem : ℕ)
+      → waits sem (newest_first n.state.signals) ≡ waits sem (newest_first m.state.signals)
   same_waited sem =
       (count_past sem n.state.signals).1
       ∙ sym (counted_when_reached scene n two.finished.reached sem).1
@@ -300,12 +306,13 @@ module _ (scene : Scene) (m n : Moment) (a b : Sight) (one : IsSight scene m a)
       ∙ (counted_when_reached scene m one.finished.reached sem).1
       ∙ sym (count_past sem m.state.signals).1
 
-  here : (i : ℕ) (st : Station) → slice_get scene.stations i ≡ Some st → IsInodeSame pairs i a b
+  here : (i : ℕ) (st : ScriptFile) → slice_get scene.script_files i ≡ Some st
+      → IsInodeSame pairs i a b
   here i st at =
       inodes i (subst (λ k. i < k) (sym (length_is scene m a one))
-      (slice_get_within scene.stations i st at))
+      (slice_get_within scene.script_files i st at))
 
-  journals : (i : ℕ) (st : Station) (at : slice_get scene.stations i ≡ Some st)
+  journals : (i : ℕ) (st : ScriptFile) (at : slice_get scene.script_files i ≡ Some st)
       → AreJournalsSame m.state.list n.state.list pairs i
       (ended_inode (inode_of scene st) (here i st at).cell.list)
       (ended_inode (inode_of scene st) (here i st at).cell2.list)
@@ -322,7 +329,7 @@ module _ (scene : Scene) (m n : Moment) (a b : Sight) (one : IsSight scene m a)
       (ended_is scene m a one i st at x.cell x.at)
       (ended_is scene n b two i st at x.cell2 x.at2)))
 
-  inode_there : (i : ℕ) (st : Station) → slice_get scene.stations i ≡ Some st
+  inode_there : (i : ℕ) (st : ScriptFile) → slice_get scene.script_files i ≡ Some st
       → IsInodeAlike (inode_of scene st) m.state.list n.state.list (is_used m.thoughts i)
       (named pairs i) (journal_at m.state i) (journal_at n.state i)
   inode_there i st at =
@@ -342,17 +349,17 @@ module _ (scene : Scene) (m n : Moment) (a b : Sight) (one : IsSight scene m a)
       (inode_is scene m a one i st at x.cell x.at)
       (inode_is scene n b two i st at x.cell2 x.at2) (journals i st at)))
 
-  elsewhere : (i : ℕ) → slice_get scene.stations i ≡ None → (file : ℕ)
+  elsewhere : (i : ℕ) → slice_get scene.script_files i ≡ None → (file : ℕ)
       → named pairs i file ≡ file
   elsewhere i none file =
       named_elsewhere (length a.ended.inodes) i file pairs within
-      (subst (λ k. k ≤ i) (sym (length_is scene m a one)) (beyond_none scene.stations i none))
+      (subst (λ k. k ≤ i) (sym (length_is scene m a one)) (beyond_none scene.script_files i none))
 
   pub alike : IsAlike scene m n
   alike = inr (
     named pairs,
     record {
-      none = λ i. by i (slice_get scene.stations i) refl;
+      none = λ i. by i (slice_get scene.script_files i) refl;
       elsewhere = elsewhere;
       thoughts = named_thoughts;
       inodes = inode_there;
@@ -362,6 +369,7 @@ module _ (scene : Scene) (m n : Moment) (a b : Sight) (one : IsSight scene m a)
     },
   )
     where
-      by : (i : ℕ) (o : Option Station) → slice_get scene.stations i ≡ o → named pairs i 0 ≡ 0
+      by : (i : ℕ) (o : Option ScriptFile) → slice_get scene.script_files i ≡ o
+          → named pairs i 0 ≡ 0
       by i None at = elsewhere i at 0
       by i (Some st) at = named_is pairs apart i 0 0 (journals i st at).files.uncounted

@@ -8,7 +8,7 @@ use Rattle.std.proofs.lemmas.List.Elements.{All-head, All-tail}
 use Rattle.std.proofs.lemmas.List.Sums.{AllPass-from_list_all}
 use Rattle.inode_events.specs.Checks.{check_after, last_check}
 use Rattle.inode_events.specs.EndedInode.{EndedInodeValue}
-use Rattle.inode_events.specs.Past.{past}
+use Rattle.inode_events.specs.NewestFirst.{newest_first}
 use Rattle.inode_events.specs.State.{content}
 use Rattle.inode_events.specs.declared.deed.Deed.{Deed}
 use Rattle.inode_events.specs.declared.deed.Deed.TheVariants as deed
@@ -47,8 +47,8 @@ none_checked file end (e ∷ p) h le =
 
 -- no file from the end on has been checked
 pub unchecked_beyond : (file end : ℕ) (j : List Event) → are_checks_below end j ≡ true → end ≤ file
-    → last_check file (past j) ≡ unchecked
-unfolding past
+    → last_check file (newest_first j) ≡ unchecked
+unfolding newest_first
 unchecked_beyond file end j h le =
     none_checked file end (reverse j)
     (All-reverse (λ (e : Event). is_check_below end e.deed ≡ true) j
@@ -149,34 +149,39 @@ module _ (list list2 : List Entry) (x y : EndedInodeValue)
 
   listed_at : (task n : ℕ) (e : Event) → IsCallSame list list2 (x ∷ []) (y ∷ []) e
       → e.who.task ≡ task → e.who.call ≡ n → is_read e.deed ≡ true
-      → listed_in list2 task n (past y.journal) ≡ listed_in list task n (past x.journal)
+      → listed_in list2 task n (newest_first y.journal)
+      ≡ listed_in list task n (newest_first x.journal)
   listed_at task n e same is is2 read =
-      sym (or_none (listed_in list2 task n (past y.journal)))
-      ∙ (λ k. option_or (listed_in list2 (sym is k) (sym is2 k) (past y.journal)) None)
+      sym (or_none (listed_in list2 task n (newest_first y.journal)))
+      ∙ (λ k. option_or (listed_in list2 (sym is k) (sym is2 k) (newest_first y.journal)) None)
       ∙ same.listed read
-      ∙ (λ k. option_or (listed_in list (is k) (is2 k) (past x.journal)) None)
-      ∙ or_none (listed_in list task n (past x.journal))
+      ∙ (λ k. option_or (listed_in list (is k) (is2 k) (newest_first x.journal)) None)
+      ∙ or_none (listed_in list task n (newest_first x.journal))
 
   past_calls : (j : List Event) → All (IsCallSame list list2 (x ∷ []) (y ∷ [])) j
-      → All (IsCallSame list list2 (x ∷ []) (y ∷ [])) (past j)
-  unfolding past
+      → All (IsCallSame list list2 (x ∷ []) (y ∷ [])) (newest_first j)
+  unfolding newest_first
   past_calls j h = All-reverse (IsCallSame list list2 (x ∷ []) (y ∷ [])) j h
 
   pub listed_same : (task n : ℕ)
-      → listed_in list2 task n (past y.journal) ≡ listed_in list task n (past x.journal)
+      → listed_in list2 task n (newest_first y.journal)
+      ≡ listed_in list task n (newest_first x.journal)
   listed_same task n =
-      by (listed_found (IsCallSame list list2 (x ∷ []) (y ∷ [])) task n list (past x.journal)
-      (past_calls x.journal calls))
-      (listed_found (IsCallSame list list2 (x ∷ []) (y ∷ [])) task n list2 (past y.journal)
+      by (listed_found (IsCallSame list list2 (x ∷ []) (y ∷ [])) task n list
+      (newest_first x.journal) (past_calls x.journal calls))
+      (listed_found (IsCallSame list list2 (x ∷ []) (y ∷ [])) task n list2 (newest_first y.journal)
       (past_calls y.journal calls2))
     where
-      by : (listed_in list task n (past x.journal) ≡ None) ⊎ ((e : Event) × (IsCallSame list list2
+      by : (listed_in list task n (newest_first x.journal) ≡ None)
+          ⊎ ((e : Event) × (IsCallSame list list2
           (x ∷ []) (y ∷ []) e × ((e.who.task ≡ task) × ((e.who.call ≡ n)
           × (is_read e.deed ≡ true)))))
-          → (listed_in list2 task n (past y.journal) ≡ None) ⊎ ((e : Event) × (IsCallSame list list2
+          → (listed_in list2 task n (newest_first y.journal) ≡ None)
+          ⊎ ((e : Event) × (IsCallSame list list2
           (x ∷ []) (y ∷ []) e × ((e.who.task ≡ task) × ((e.who.call ≡ n)
           × (is_read e.deed ≡ true)))))
-          → listed_in list2 task n (past y.journal) ≡ listed_in list task n (past x.journal)
+          → listed_in list2 task n (newest_first y.journal)
+          ≡ listed_in list task n (newest_first x.journal)
       by (inr f) other = listed_at task n f.0 f.1.0 f.1.1.0 f.1.1.1.0 f.1.1.1.1
       by (inl none) (inr f) = listed_at task n f.0 f.1.0 f.1.1.0 f.1.1.1.0 f.1.1.1.1
       by (inl none) (inl none2) = none2 ∙ sym none

@@ -5,7 +5,7 @@ use Rattle.std.proofs.lemmas.Bool.{eqb-true}
 use Rattle.std.proofs.lemmas.List.{length-reverse, length-take-le}
 use Rattle.inode_events.specs.Checks.{check_after, last_check}
 use Rattle.inode_events.specs.Files.{counted, dropped, files, find_file, held, less_file, with_file, without_file}
-use Rattle.inode_events.specs.Past.{past}
+use Rattle.inode_events.specs.NewestFirst.{newest_first}
 use Rattle.inode_events.specs.declared.deed.How.{How}
 use Rattle.inode_events.specs.declared.told.Event.{Event}
 use Rattle.order_sights.specs.Files.{IsSeen, check_in, counted_as, drops}
@@ -56,29 +56,29 @@ held_next file e p h =
     (find-without file (dropped e.deed e.told) (files p) h)
 
 length-past : (journal : List Event) (k : ℕ) → k < length journal
-    → length (past (take k journal)) ≡ k
-unfolding past
+    → length (newest_first (take k journal)) ≡ k
+unfolding newest_first
 length-past journal k lt =
     length-reverse (take k journal) ∙ length-take-le k journal (omega (arith, lt))
 
 pub seen_none : (file : ℕ) (seen : FileSeen) → seen.how ≡ None
-    → check_in seen ≡ last_check file [] → IsSeen file (past []) seen
+    → check_in seen ≡ last_check file [] → IsSeen file (newest_first []) seen
 seen_none file seen how check =
     subst (λ (p : List Event). IsSeen file p seen) (sym past_none)
     (record { how = how; check = check })
 
 pub seen_next : (journal : List Event) (k file : ℕ) (e : Event) (old new : FileSeen)
     → k < length journal → e ≡ get_or journal k e → drops file (dropped e.deed e.told) ≡ false
-    → IsSeen file (past (take k journal)) old
+    → IsSeen file (newest_first (take k journal)) old
     → new.how ≡ counted_as (k == file) (counted e.deed e.told) old.how
     → check_in new ≡ check_after file e.deed (check_in old)
-    → IsSeen file (past (take (k + 1) journal)) new
+    → IsSeen file (newest_first (take (k + 1) journal)) new
 seen_next journal k file e old new lt is stays h how check =
     subst (λ (p : List Event). IsSeen file p new) (sym (past_next journal k e lt is))
     (record {
       how = how ∙ ap (counted_as (k == file) (counted e.deed e.told)) h.how
           ∙ ap (λ n. counted_as (n == file) (counted e.deed e.told)
-          (held file (past (take k journal)))) (sym (length-past journal k lt))
-          ∙ sym (held_next file e (past (take k journal)) stays);
+          (held file (newest_first (take k journal)))) (sym (length-past journal k lt))
+          ∙ sym (held_next file e (newest_first (take k journal)) stays);
       check = check ∙ ap (check_after file e.deed) h.check;
     })

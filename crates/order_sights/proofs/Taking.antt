@@ -2,7 +2,7 @@
 use Rattle.std.proofs.Common.{◌≡◌, ℕ, ◌+◌, ◌<◌, Bool, true, false, List, [], ◌∷◌, ◌++◌, get_or, length, take, Option, Some, None, refl, ap, sym, ◌∙◌}
 use Rattle.inode_events.specs.Inode.{Inode}
 use Rattle.inode_events.specs.Integrity.{Collection, Integrity, collected_more, collecting, collecting_after, integrity}
-use Rattle.inode_events.specs.Past.{past}
+use Rattle.inode_events.specs.NewestFirst.{newest_first}
 use Rattle.inode_events.specs.State.{content, content_after}
 use Rattle.inode_events.specs.declared.deed.Deed.{Deed}
 use Rattle.inode_events.specs.declared.deed.Deed.TheVariants as deed
@@ -62,16 +62,16 @@ taken_is inode (e ∷ p) =
 
 -- the content after one event more
 pub content_more : (journal : List Event) (k : ℕ) (e : Event) (old new : List ℕ)
-    → k < length journal → e ≡ get_or journal k e → old ≡ content (past (take k journal))
-    → new ≡ content_after e.deed e.told old → new ≡ content (past (take (k + 1) journal))
+    → k < length journal → e ≡ get_or journal k e → old ≡ content (newest_first (take k journal))
+    → new ≡ content_after e.deed e.told old → new ≡ content (newest_first (take (k + 1) journal))
 content_more journal k e old new lt is h after =
     after ∙ ap (content_after e.deed e.told) h ∙ sym (ap content (past_next journal k e lt is))
 
 -- what is taken after it
 pub taken_further : (journal : List Event) (k : ℕ) (e : Event) (bytes : List ℕ)
     (old new : TakenValue) → k < length journal → e ≡ get_or journal k e
-    → bytes ≡ content (past (take k journal)) → old ≡ taken (past (take k journal))
-    → new ≡ taken_after e.deed e.told bytes old → new ≡ taken (past (take (k + 1) journal))
+    → bytes ≡ content (newest_first (take k journal)) → old ≡ taken (newest_first (take k journal))
+    → new ≡ taken_after e.deed e.told bytes old → new ≡ taken (newest_first (take (k + 1) journal))
 taken_further journal k e bytes old new lt is c h after =
     after ∙ (λ j. taken_after e.deed e.told (c j) (h j))
     ∙ sym (ap taken (past_next journal k e lt is))

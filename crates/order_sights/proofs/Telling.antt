@@ -3,7 +3,7 @@ use Rattle.std.proofs.Common.{◌≡◌, ℕ, ◌+◌, ◌<◌, All, List, [], �
 use Rattle.std.specs.Prelude.{option_to_list, reverse}
 use Rattle.std.proofs.lemmas.List.{append-nil, reverse-append}
 use Rattle.std.proofs.lemmas.List.Elements.{All-head, All-nil, All-push, All-tail}
-use Rattle.inode_events.specs.Past.{past}
+use Rattle.inode_events.specs.NewestFirst.{newest_first}
 use Rattle.inode_events.specs.declared.told.Event.{Event}
 use Rattle.order_alike.specs.Alike.{places_in, with_place}
 use Rattle.order_outcomes.specs.Calls.{place_told}
@@ -11,7 +11,7 @@ use Rattle.order_outcomes.proofs.Walking.{past_next, past_none}
 
 -- ---- places
 
-pub places_none : reverse [] ≡ places_in (past [])
+pub places_none : reverse [] ≡ places_in (newest_first [])
 places_none = ap places_in (sym past_none)
 
 -- the newest place comes first
@@ -22,8 +22,8 @@ reverse_with places (Some p) = reverse-append places (p ∷ [])
 
 pub places_next : (journal : List Event) (k : ℕ) (e : Event) (old new : List ℕ) (o : Option ℕ)
     → k < length journal → e ≡ get_or journal k e
-    → reverse old ≡ places_in (past (take k journal)) → o ≡ place_told e.told
-    → new ≡ old ++ option_to_list o → reverse new ≡ places_in (past (take (k + 1) journal))
+    → reverse old ≡ places_in (newest_first (take k journal)) → o ≡ place_told e.told
+    → new ≡ old ++ option_to_list o → reverse new ≡ places_in (newest_first (take (k + 1) journal))
 places_next journal k e old new o lt is h told after =
     ap (λ (ps : List ℕ). reverse ps) after ∙ reverse_with old o
     ∙ (λ i. with_place (told i) (h i))

@@ -5,7 +5,7 @@ use Rattle.inode_events.specs.Checks.{last_check}
 use Rattle.inode_events.specs.EndedInode.{EndedInodeValue}
 use Rattle.inode_events.specs.Files.{held}
 use Rattle.inode_events.specs.Integrity.{attributes}
-use Rattle.inode_events.specs.Past.{past}
+use Rattle.inode_events.specs.NewestFirst.{newest_first}
 use Rattle.inode_events.specs.State.{content}
 use Rattle.inode_events.specs.declared.told.Event.{Event}
 use Rattle.inode_events.specs.templates.declared.entry.Entry.{Entry}
@@ -21,8 +21,8 @@ use Rattle.order_sights.specs.declared.pairs.Pair.{Pair}
 pub record IsPairFit (j j2 : List Event) (p : Pair) : Type 0 where
   pub below : p.first < length j
   pub below2 : p.second < length j2
-  pub how : held p.second (past j2) ≡ held p.first (past j)
-  pub check : last_check p.second (past j2) ≡ last_check p.first (past j)
+  pub how : held p.second (newest_first j2) ≡ held p.first (newest_first j)
+  pub check : last_check p.second (newest_first j2) ≡ last_check p.first (newest_first j)
 
 abbrev pub FitsIfThere : ℕ → List Event → List Event → Pair → Type 0
 FitsIfThere inode j j2 p = p.inode ≡ inode → IsPairFit j j2 p
@@ -40,7 +40,7 @@ pub record AreJournalsSame (list list2 : List Entry) (pairs : List Pair) (i : �
     (x y : EndedInodeValue) : Type 0 where
   pub files : AreFilesSame pairs i x.journal y.journal
   pub entries : AreEntriesSame list list2 x.journal y.journal
-  pub taken : taken (past y.journal) ≡ taken (past x.journal)
+  pub taken : taken (newest_first y.journal) ≡ taken (newest_first x.journal)
   pub calls : All (IsCallSame list list2 (x ∷ []) (y ∷ [])) x.journal
   pub calls2 : All (IsCallSame list list2 (x ∷ []) (y ∷ [])) y.journal
 
@@ -48,8 +48,9 @@ pub record AreJournalsSame (list list2 : List Entry) (pairs : List Pair) (i : �
 pub record IsCellSame (a b : CellValue) : Type 0 where
   pub first : State
   pub second : State
-  pub state : IsState a.inode (past a.list) first
-  pub state2 : IsState b.inode (past b.list) second
+  pub state : IsState a.inode (newest_first a.list) first
+  pub state2 : IsState b.inode (newest_first b.list) second
   pub same : IsStateSame first second
-  pub content : content (past b.list) ≡ content (past a.list)
-  pub attributes : attributes b.inode (past b.list) ≡ attributes a.inode (past a.list)
+  pub content : content (newest_first b.list) ≡ content (newest_first a.list)
+  pub attributes : attributes b.inode (newest_first b.list)
+      ≡ attributes a.inode (newest_first a.list)

@@ -19,7 +19,7 @@ pub record IsSight (scene : Scene) (m : Moment) (s : Sight) : Type 0 where
   pub moment_is : moment_in s.world s.tasks.items ≡ m
   pub left : s.ended ≡ left_at scene m
   pub finished : IsFinished scene m
-  pub even : length m.state.journals ≡ length scene.stations
+  pub even : length m.state.journals ≡ length scene.script_files
 
 -- there are as many inodes, and no appended rules
 pub record AreCountsSame (a b : Sight) : Type 0 where

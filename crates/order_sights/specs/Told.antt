@@ -2,7 +2,7 @@
 use Rattle.std.specs.Prelude.{◌≡◌, ℕ, ◌<◌, nat_lt, All, Bool, true, false, List, length, reverse, Some, slice_get}
 use Rattle.std.specs.List.{list_all}
 use Rattle.inode_events.specs.EndedInode.{EndedInodeValue}
-use Rattle.inode_events.specs.Past.{past}
+use Rattle.inode_events.specs.NewestFirst.{newest_first}
 use Rattle.inode_events.specs.declared.deed.Deed.{Deed}
 use Rattle.inode_events.specs.declared.deed.Deed.TheVariants as deed
 use Rattle.inode_events.specs.declared.told.Event.{Event}
@@ -39,8 +39,8 @@ IsThere list places other place = (e : Entry) → slice_get other place ≡ Some
 pub record AreEntriesSame (list list2 : List Entry) (j j2 : List Event) : Type 0 where
   pub places : List ℕ
   pub places2 : List ℕ
-  pub told : reverse places ≡ places_in (past j)
-  pub told2 : reverse places2 ≡ places_in (past j2)
+  pub told : reverse places ≡ places_in (newest_first j)
+  pub told2 : reverse places2 ≡ places_in (newest_first j2)
   pub below : All (λ place. place < length list) places
   pub below2 : All (λ place. place < length list2) places2
   pub there : All (IsThere list2 places2 list) places

@@ -3,7 +3,7 @@
 ghost use Rattle.std.specs.Prelude.{◌≡◌, ◌==◌, IfSome, true, false};
 ghost use Rattle.inode_events.specs.Checks.{check_after};
 ghost use Rattle.inode_events.specs.Files.{counted, dropped};
-ghost use Rattle.inode_events.specs.Past.{past};
+ghost use Rattle.inode_events.specs.NewestFirst.{newest_first};
 ghost use Rattle.order_sights.specs.Files.{IsSeen, check_in, counted_as, drops};
 
 use inode_events::{Deed, Event, How, Told};
@@ -71,7 +71,7 @@ fn seen_after(event: &Event, place: u64, file: u64, old: FileSeen) -> FileSeen
 
 /// What the journal says of the file. `None` if it has been dropped.
 pub fn file_seen(journal: &[Event], file: u64) -> Option<FileSeen>
-    ensures { IfSome result (IsSeen file (past journal.now)) }
+    ensures { IfSome result (IsSeen file (newest_first journal.now)) }
 {
     let mut seen = FileSeen {
         how: None,

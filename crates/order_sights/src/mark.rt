@@ -42,7 +42,7 @@ fn with_inode(mark: u64, cell: &InodeCell) -> u64 {
     };
     let mark = mixed(mark, state.counts.writers);
     let mark = mixed(mark, state.counts.readers);
-    let mark = mixed(mark, u64::from(state.marks.must));
+    let mark = mixed(mark, u64::from(state.marks.must_measure));
     let mark = mixed(mark, u64::from(state.in_force.is_some()));
     let mark = mixed(mark, pieces);
     mixed(mark, cell.content().len())

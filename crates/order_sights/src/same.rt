@@ -40,7 +40,7 @@ impl Same for Marks {
     fn is_same(&self, other: &Marks) -> bool {
         self.present == other.present
             && self.new == other.new
-            && self.must == other.must
+            && self.must_measure == other.must_measure
             && self.update == other.update
             && self.versions == other.versions
     }

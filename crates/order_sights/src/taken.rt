@@ -1,7 +1,7 @@
 // What the open collection of an inode has taken, found along the inode's journal.
 
 ghost use Rattle.std.specs.Prelude.{◌≡◌, IfOk, IsTrue, OnOk};
-ghost use Rattle.inode_events.specs.Past.{past};
+ghost use Rattle.inode_events.specs.NewestFirst.{newest_first};
 ghost use Rattle.inode_events.specs.pages.Content.{piece_at};
 ghost use Rattle.order_sights.specs.Taken.{none_taken, taken, taken_after, taken_more};
 
@@ -97,7 +97,7 @@ impl Taken {
 
 // What the open collection has taken after the journal.
 fn taken_in(alloc: Global, journal: &[Event]) -> Result<Taken, OutOfMemory>
-    ensures { IfOk result (λ t. t ≡ taken (past journal.now)) }
+    ensures { IfOk result (λ t. t ≡ taken (newest_first journal.now)) }
 {
     let mut content = Content::new(alloc);
     let mut taken = Taken::new(alloc);
@@ -110,7 +110,8 @@ fn taken_in(alloc: Global, journal: &[Event]) -> Result<Taken, OutOfMemory>
 
 /// Whether the open collections of both journals have taken the same, or none is open.
 pub fn same_taken(alloc: Global, a: &[Event], b: &[Event]) -> Result<bool, OutOfMemory>
-    ensures { IfOk result (λ same. IsTrue same → (taken (past b.now) ≡ taken (past a.now))) }
+    ensures { IfOk result
+        (λ same. IsTrue same → (taken (newest_first b.now) ≡ taken (newest_first a.now))) }
 {
     let first = taken_in(alloc, a)?;
     let second = taken_in(alloc, b)?;

@@ -1,7 +1,7 @@
 // What calls were told in two journals of an inode.
 
 ghost use Rattle.std.specs.Prelude.{◌≡◌, ◌<◌, ◌++◌, length, option_to_list, reverse, slice_get, All, IfOk, IsTrue, OnOk, Some, true};
-ghost use Rattle.inode_events.specs.Past.{past};
+ghost use Rattle.inode_events.specs.NewestFirst.{newest_first};
 ghost use Rattle.order_alike.specs.Alike.{places_in};
 ghost use Rattle.order_outcomes.specs.Calls.{is_read, listed_of, verdict_of};
 ghost use Rattle.order_sights.specs.Told.{AreEntriesSame, IsAt, IsCallSame, IsThere, are_checks_below, is_check_below, is_grant};
@@ -47,7 +47,7 @@ fn push_place(places: &mut Vec<u64>, place: Option<u64>) -> Result<(), OutOfMemo
 
 // The places in the list that the grants report, oldest first.
 fn places_in(alloc: Global, journal: &[Event]) -> Result<Vec<u64>, OutOfMemory>
-    ensures { IfOk result (λ places. reverse places.items ≡ places_in (past journal.now)) }
+    ensures { IfOk result (λ places. reverse places.items ≡ places_in (newest_first journal.now)) }
 {
     let mut places = Vec::new(alloc);
     for event in journal {

@@ -16,7 +16,7 @@ use Rattle.inode_events.specs.Inode.{Inode}
 use Rattle.inode_events.specs.Integrity.{Collection, collecting}
 use Rattle.inode_events.specs.Files.{writers}
 use Rattle.inode_events.specs.Legal.{EachFollows, Follows}
-use Rattle.inode_events.specs.Past.{past}
+use Rattle.inode_events.specs.NewestFirst.{newest_first}
 use Rattle.inode_events.specs.Says.{close_finish_told, finish_told, says, placed_in}
 use Rattle.inode_events.specs.templates.declared.entry.Placed.{Placed}
 use Rattle.inode_events.specs.declared.deed.Deed.{Deed}
@@ -73,8 +73,8 @@ all_legal i [] h = All-nil FitsEvent
 all_legal i (e ∷ p) h =
     All-cons FitsEvent e p (legal_fits i p e.who e.deed e.told h.0) (all_legal i p h.1)
 
-all_past : (list : List Event) → All FitsEvent (past list) → All FitsEvent list
-unfolding past
+all_past : (list : List Event) → All FitsEvent (newest_first list) → All FitsEvent list
+unfolding newest_first
 all_past list h =
     all_from FitsEvent list (λ e c. All-contains FitsEvent (reverse list) e h
     (has_reverse list e c))
@@ -368,7 +368,7 @@ pub busy_goes : BusyOfHistory
 busy_goes inode mode n p h i journal f legal owns b =
     let fits : All FitsPlaced (own mode n p i h) =
     subst (All FitsPlaced) owns (entries_fit (n + 1) 0 (map caller_of journal) journal
-    (all_past journal (all_legal inode (past journal) legal))) in
+    (all_past journal (all_legal inode (newest_first journal) legal))) in
     let goes : GoesAt p (thought mode p h).mind i f = busy_history inode mode n p i f h fits b in
     finish goes where
       finish : GoesAt p (thought mode p h).mind i f

@@ -9,7 +9,7 @@ use Rattle.inode_events.specs.Asked.{asked, outcome, placed_for}
 use Rattle.inode_events.specs.Inode.{Inode}
 use Rattle.inode_events.specs.Integrity.{Collection, collecting, in_force}
 use Rattle.inode_events.specs.Legal.{EachFollows, May}
-use Rattle.inode_events.specs.Past.{past}
+use Rattle.inode_events.specs.NewestFirst.{newest_first}
 use Rattle.inode_events.specs.Says.{close_take_told, says, set_attr_told, set_meta_told, take_told, unless_collecting}
 use Rattle.inode_events.specs.Files.{writers}
 use Rattle.inode_events.specs.Marks.{is_label_due}
@@ -30,8 +30,8 @@ use Rattle.call_steps.specs.declared.call.Call.TheVariants as call
 use Rattle.run_model.specs.Ended.{all_done, all_wait, is_done, is_stuck, left, posted, posts_to, waited, waits_in_vain}
 use Rattle.run_model.specs.History.{Thought, call_at, own_signals, step_at, step_in}
 use Rattle.run_model.specs.Rounds.{is_moved, moves}
-use Rattle.run_model.specs.Scene.{Program, Scene, Station, inode_of, mode_of}
-use Rattle.run_model.specs.Turns.{Moment, State, go, go_check, go_step, turn_of}
+use Rattle.run_model.specs.Scene.{Program, Scene, ScriptFile, inode_of, mode_of}
+use Rattle.run_model.specs.Turns.{Moment, State, step_check, step_due, step_task, turn_of}
 use Rattle.inode_events.specs.Semaphores.{semaphore_says}
 use Rattle.progress_laws.specs.Resting.{AtRest, EndsAtRest, IsReached, MayStep, PaidWhenReached, Resting}
 use Rattle.progress_laws.proofs.Counted.{Fits, history_fits, posts_agree, signal_of}
@@ -166,37 +166,39 @@ signal_step left_of p t signals d l even (Some c) at e h =
     signal_ends left_of p t signals c d l even at s h
 
 check_moves : (scene : Scene) (n : ℕ) (p : Program) (s : State) (t : Thought) (i file : ℕ)
-    (func : Func) (mask : ℕ) (station : Station) → slice_get scene.stations i ≡ Some station
-    → is_moved (go_check scene n p s t i (slice_get scene.stations i) file func mask).turn ≡ true
-check_moves scene n p s t i file func mask station e =
-    ap (λ (o : Option Station). is_moved (go_check scene n p s t i o file func mask).turn) e
+    (func : Func) (mask : ℕ) (script_file : ScriptFile)
+    → slice_get scene.script_files i ≡ Some script_file
+    → is_moved (step_check scene n p s t i (slice_get scene.script_files i) file func mask).turn
+    ≡ true
+check_moves scene n p s t i file func mask script_file e =
+    ap (λ (o : Option ScriptFile). is_moved (step_check scene n p s t i o file func mask).turn) e
 
 task_ends : (scene : Scene) (m : Moment) (r : AtRest scene m) (left_of : ℕ → ℕ)
-    → ((sem : ℕ) → left_of sem ≡ count_left sem (past m.state.signals))
+    → ((sem : ℕ) → left_of sem ≡ count_left sem (newest_first m.state.signals))
     → (n : ℕ) (p : Program) (t : Thought) → length t.replies ≡ t.mind.at
-    → t.mind.at ≤ length p.calls → is_moved (go scene n p m.state t).turn ≡ false
+    → t.mind.at ≤ length p.calls → is_moved (step_task scene n p m.state t).turn ≡ false
     → (o : Option Step) → step_at p t.mind ≡ o → MayStep scene m.state o
-    → is_moved (go_step scene n p m.state t o).turn ≡ false → Ends left_of p t
+    → is_moved (step_due scene n p m.state t o).turn ≡ false → Ends left_of p t
 task_ends scene m r left_of l n p t even within whole None e may h =
     done_ends left_of p t even within (call_at p t.mind) refl e
 task_ends scene m r left_of l n p t even within whole (Some Nothing) e may h = absurd (cc)
 task_ends scene m r left_of l n p t even within whole (Some (Appends rule)) e may h = absurd (cc)
 task_ends scene m r left_of l n p t even within whole (Some (Signals d)) e may h =
-    signal_step left_of p t (past m.state.signals) d l even (call_at p t.mind) refl e h
+    signal_step left_of p t (newest_first m.state.signals) d l even (call_at p t.mind) refl e h
 task_ends scene m r left_of l n p t even within whole (Some (Checks i file func mask)) e may h =
     absurd (both_ways _ (check_moves scene n p m.state t i file func mask may.0 may.1) h)
 task_ends scene m r left_of l n p t even within whole (Some (Does i d)) e may h =
     let legal = r.legal.follows i may.0 may.1 may.2 may.3 in
-    let free : collecting (inode_of scene may.0) (past may.1) ≡ None =
+    let free : collecting (inode_of scene may.0) (newest_first may.1) ≡ None =
     no_collection scene m r i may.0 may.1 may.2 may.3
-    (collecting (inode_of scene may.0) (past may.1)) refl in
-    let told = free_told (inode_of scene may.0) (past may.1)
+    (collecting (inode_of scene may.0) (newest_first may.1)) refl in
+    let told = free_told (inode_of scene may.0) (newest_first may.1)
     (placed_for m.state.list (asked (inode_of scene may.0) d
-    (past may.1))) d legal.0 free may.4 in
-    let moved : is_moved (go scene n p m.state t).turn ≡ true =
+    (newest_first may.1))) d legal.0 free may.4 in
+    let moved : is_moved (step_task scene n p m.state t).turn ≡ true =
     does_turn scene n p m.state t i d may.0 may.1 e may.2 may.3
     ∙ ap (λ (o : Option Told). is_moved (turn_of o)) told.1 in
-    absurd (both_ways (is_moved (go scene n p m.state t).turn) moved whole)
+    absurd (both_ways (is_moved (step_task scene n p m.state t).turn) moved whole)
 
 -- ---- all tasks
 
@@ -218,7 +220,7 @@ pub paid_when : PaidWhenReached
 paid_when scene m r sem =
     let both = counted_when_reached scene m r sem in
     let same = count_past sem m.state.signals in
-    let le = paid sem (past m.state.signals) r.legal.are_signals in
+    let le = paid sem (newest_first m.state.signals) r.legal.are_signals in
     omega (arith, both.0, both.1, same.0, same.1, le)
 
 pub ends : EndsAtRest
@@ -231,7 +233,8 @@ ends scene m r = (
   paid_at : (sem : ℕ) → waited sem scene.programs m.thoughts ≤ posted sem scene.programs m.thoughts
   paid_at = paid_when scene m (record { legal = r.legal; tasks = r.tasks })
 
-  left_is : (sem : ℕ) → left sem scene.programs m.thoughts ≡ count_left sem (past m.state.signals)
+  left_is : (sem : ℕ)
+      → left sem scene.programs m.thoughts ≡ count_left sem (newest_first m.state.signals)
   left_is sem =
       let both = counted scene m r sem in
       let same = count_past sem m.state.signals in
@@ -246,7 +249,7 @@ ends scene m r = (
       (own_signals (mode_of scene) k p rest.history)) rest.stands
       (history_fits (is_post 0) (posts_to 0) (posts_agree 0)
       (mode_of scene) k p rest.history) in
-      let still : is_moved (go scene k p m.state t).turn ≡ false =
+      let still : is_moved (step_task scene k p m.state t).turn ≡ false =
       sym (moves_is scene m k p t a b) ∙ r.still k (slice_get_within scene.programs k p a) in
       task_ends scene m r
       (λ sem. left sem scene.programs m.thoughts) left_is k p t fits.even fits.within still

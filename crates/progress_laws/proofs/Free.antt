@@ -12,7 +12,7 @@ use Rattle.inode_events.specs.Callers.{caller_in, caller_of}
 use Rattle.inode_events.specs.Inode.{Inode}
 use Rattle.inode_events.specs.Integrity.{Collection, collecting}
 use Rattle.inode_events.specs.Legal.{EachFollows, May}
-use Rattle.inode_events.specs.Past.{past}
+use Rattle.inode_events.specs.NewestFirst.{newest_first}
 use Rattle.inode_events.specs.Says.{chunk_told, finish_told, says, unless_collecting}
 use Rattle.inode_events.specs.State.{content}
 use Rattle.inode_events.specs.declared.deed.Deed.{Deed}
@@ -30,8 +30,8 @@ use Rattle.call_steps.specs.Mind.{Step}
 use Rattle.call_steps.specs.Mind.{Nothing, Does, Checks, Signals, Appends}
 use Rattle.run_model.specs.History.{Thought, own, step_at}
 use Rattle.run_model.specs.Rounds.{is_moved, moves, moves_at}
-use Rattle.run_model.specs.Scene.{Program, Scene, Station, inode_of, mode_of}
-use Rattle.run_model.specs.Turns.{Moment, State, go, go_does, go_step, journal_at, turn_of}
+use Rattle.run_model.specs.Scene.{Program, Scene, ScriptFile, inode_of, mode_of}
+use Rattle.run_model.specs.Turns.{Moment, State, journal_at, step_does, step_due, step_task, turn_of}
 use Rattle.progress_laws.specs.Resting.{AreLegal, AtRest, GoesOn, Resting}
 use Rattle.progress_laws.proofs.Busy.{busy_goes}
 use Rattle.inode_events.specs.Stage.{Asked, CloseCollected, CloseCollecting, Collected, Collecting, Counted, Gone, Settled, Stage, is_collecting, is_gone, stage, stage_in}
@@ -118,105 +118,113 @@ goes_told i p placed f c d e h = absurd e
 
 pub moves_is : (scene : Scene) (m : Moment) (n : ℕ) (p : Program) (t : Thought)
     → slice_get scene.programs n ≡ Some p → slice_get m.thoughts n ≡ Some t
-    → moves scene m n ≡ is_moved (go scene n p m.state t).turn
+    → moves scene m n ≡ is_moved (step_task scene n p m.state t).turn
 moves_is scene m n p t a b = (λ k. moves_at scene m n (a k) (b k))
 
 pub does_turn : (scene : Scene) (n : ℕ) (p : Program) (s : State) (t : Thought) (i : ℕ) (d : Deed)
-    (station : Station) (journal : List Event)
-    → step_at p t.mind ≡ Some (Does i d) → slice_get scene.stations i ≡ Some station
+    (script_file : ScriptFile) (journal : List Event)
+    → step_at p t.mind ≡ Some (Does i d) → slice_get scene.script_files i ≡ Some script_file
     → slice_get s.journals i ≡ Some journal
-    → is_moved (go scene n p s t).turn ≡ is_moved
-    (turn_of (outcome (inode_of scene station) s.list d (past journal)))
-does_turn scene n p s t i d station journal a b c =
-    ap (λ (o : Option Step). is_moved (go_step scene n p s t o).turn) a
-    ∙ ap (λ (o : Option Station). is_moved (go_does scene n p s t i o d).turn) b
+    → is_moved (step_task scene n p s t).turn ≡ is_moved
+    (turn_of (outcome (inode_of scene script_file) s.list d (newest_first journal)))
+does_turn scene n p s t i d script_file journal a b c =
+    ap (λ (o : Option Step). is_moved (step_due scene n p s t o).turn) a
+    ∙ ap (λ (o : Option ScriptFile). is_moved (step_does scene n p s t i o d).turn) b
     ∙ ap (λ (l : List Event). is_moved (turn_of
-    (outcome (inode_of scene station) s.list d (past l))))
+    (outcome (inode_of scene script_file) s.list d (newest_first l))))
     (get_or_from_slice_get s.journals i journal [] c)
 
 -- the owner of an open collection can move
-owner_moves : (scene : Scene) (m : Moment) (r : AtRest scene m) (i : ℕ) (station : Station)
+owner_moves : (scene : Scene) (m : Moment) (r : AtRest scene m) (i : ℕ) (script_file : ScriptFile)
     (journal : List Event) (c : Collection) (k : ℕ)
-    → slice_get scene.stations i ≡ Some station → slice_get m.state.journals i ≡ Some journal
-    → collecting (inode_of scene station) (past journal) ≡ Some c
+    → slice_get scene.script_files i ≡ Some script_file
+    → slice_get m.state.journals i ≡ Some journal
+    → collecting (inode_of scene script_file) (newest_first journal) ≡ Some c
     → k < length scene.programs → is_collecting
-    (stage_in (inode_of scene station) c.file (own_past (k + 1) (past journal))) ≡ true → ⊥
-owner_moves scene m r i station journal c k es ej h below collects =
+    (stage_in (inode_of scene script_file) c.file (own_past (k + 1) (newest_first journal))) ≡ true
+    → ⊥
+owner_moves scene m r i script_file journal c k es ej h below collects =
     let pp = get_within scene.programs k below in
     let even : length m.thoughts ≡ length scene.programs = r.legal.thoughts_even in
     let tt' = get_within m.thoughts k (omega arith) in
     let rest : Resting scene m.state k pp.0 tt'.0 = r.tasks k pp.0 tt'.0 pp.1 tt'.1 in
-    let path : own_past (k + 1) (past journal)
+    let path : own_past (k + 1) (newest_first journal)
     ≡ reverse (own (mode_of scene) k pp.0 i rest.history) =
     own_bridge (k + 1) journal ∙ ap reverse (rest.events i journal ej) in
-    let mine : is_collecting (stage_in (inode_of scene station) c.file
+    let mine : is_collecting (stage_in (inode_of scene script_file) c.file
     (reverse (own (mode_of scene) k pp.0 i rest.history))) ≡ true =
-    subst (λ (l : List (ℕ × Event)). is_collecting (stage_in (inode_of scene station) c.file l)
+    subst (λ (l : List (ℕ × Event)). is_collecting (stage_in (inode_of scene script_file) c.file l)
     ≡ true) path collects in
-    let g0 = busy_goes (inode_of scene station)
+    let g0 = busy_goes (inode_of scene script_file)
     (mode_of scene) k pp.0 rest.history i journal c.file
-    (r.legal.follows i station journal es ej).0 (rest.events i journal ej) mine in
+    (r.legal.follows i script_file journal es ej).0 (rest.events i journal ej) mine in
     let g : (d : Deed) × (step_at pp.0 tt'.0.mind ≡ Some (Does i d)) × GoesOn c.file d =
     subst (λ (u : Thought). (d : Deed) × (step_at pp.0 u.mind ≡ Some (Does i d))
     × GoesOn c.file d) rest.stands g0 in
-    let told = goes_told (inode_of scene station) (past journal)
-    (placed_for m.state.list (asked (inode_of scene station) g.0
-    (past journal))) c.file c g.0 g.2 h in
-    let moved : is_moved (go scene k pp.0 m.state tt'.0).turn ≡ true =
-    does_turn scene k pp.0 m.state tt'.0 i g.0 station journal g.1 es ej
+    let told = goes_told (inode_of scene script_file) (newest_first journal)
+    (placed_for m.state.list (asked (inode_of scene script_file) g.0
+    (newest_first journal))) c.file c g.0 g.2 h in
+    let moved : is_moved (step_task scene k pp.0 m.state tt'.0).turn ≡ true =
+    does_turn scene k pp.0 m.state tt'.0 i g.0 script_file journal g.1 es ej
     ∙ ap (λ (o : Option Told). is_moved (turn_of o)) told.1 in
-    let still : is_moved (go scene k pp.0 m.state tt'.0).turn ≡ false =
+    let still : is_moved (step_task scene k pp.0 m.state tt'.0).turn ≡ false =
     sym (moves_is scene m k pp.0 tt'.0 pp.1 tt'.1) ∙ r.still k below in
-    both (is_moved (go scene k pp.0 m.state tt'.0).turn) moved still where
+    both (is_moved (step_task scene k pp.0 m.state tt'.0).turn) moved still where
       both : (b : Bool) → b ≡ true → b ≡ false → ⊥
       both true x y = absurd (cc)
       both false x y = absurd (cc)
 
-by_caller : (scene : Scene) (m : Moment) (r : AtRest scene m) (i : ℕ) (station : Station)
+by_caller : (scene : Scene) (m : Moment) (r : AtRest scene m) (i : ℕ) (script_file : ScriptFile)
     (journal : List Event) (c : Collection) (n : ℕ)
-    → slice_get scene.stations i ≡ Some station → slice_get m.state.journals i ≡ Some journal
-    → collecting (inode_of scene station) (past journal) ≡ Some c
+    → slice_get scene.script_files i ≡ Some script_file
+    → slice_get m.state.journals i ≡ Some journal
+    → collecting (inode_of scene script_file) (newest_first journal) ≡ Some c
     → n ≤ length scene.programs → is_collecting
-    (stage_in (inode_of scene station) c.file (own_past n (past journal))) ≡ true → ⊥
-by_caller scene m r i station journal c zero es ej h below collects =
-    let z : is_collecting (stage_in (inode_of scene station) c.file (own_past 0 (past journal)))
-    ≡ false = ap is_collecting (births_gone (inode_of scene station) c.file (past journal)) in
-    both (is_collecting (stage_in (inode_of scene station) c.file
-    (own_past 0 (past journal)))) collects z where
+    (stage_in (inode_of scene script_file) c.file (own_past n (newest_first journal))) ≡ true → ⊥
+by_caller scene m r i script_file journal c zero es ej h below collects =
+    let z : is_collecting
+    (stage_in (inode_of scene script_file) c.file (own_past 0 (newest_first journal)))
+    ≡ false = ap is_collecting
+    (births_gone (inode_of scene script_file) c.file (newest_first journal)) in
+    both (is_collecting (stage_in (inode_of scene script_file) c.file
+    (own_past 0 (newest_first journal)))) collects z where
       both : (b : Bool) → b ≡ true → b ≡ false → ⊥
       both true x y = absurd (cc)
       both false x y = absurd (cc)
-by_caller scene m r i station journal c (suc k) es ej h below collects =
+by_caller scene m r i script_file journal c (suc k) es ej h below collects =
     let e : suc k ≡ k + 1 = omega arith in
-    owner_moves scene m r i station journal c k es ej h (omega arith)
-    (subst (λ (n : ℕ). is_collecting (stage_in (inode_of scene station) c.file
-    (own_past n (past journal))) ≡ true) e collects)
+    owner_moves scene m r i script_file journal c k es ej h (omega arith)
+    (subst (λ (n : ℕ). is_collecting (stage_in (inode_of scene script_file) c.file
+    (own_past n (newest_first journal))) ≡ true) e collects)
 
 pub no_collection : (scene : Scene) (m : Moment) → AtRest scene m
-    → (i : ℕ) (station : Station) (journal : List Event)
-    → slice_get scene.stations i ≡ Some station → slice_get m.state.journals i ≡ Some journal
-    → (o : Option Collection) → collecting (inode_of scene station) (past journal) ≡ o → o ≡ None
-no_collection scene m r i station journal es ej None h = refl
-no_collection scene m r i station journal es ej (Some c) h =
-    let inode : Inode = inode_of scene station in
-    let legal = r.legal.follows i station journal es ej in
-    let stands : StageIs (inode_of scene station) (past journal) (Some c) =
-    subst (StageIs (inode_of scene station) (past journal)) h
-    (stages (inode_of scene station) (past journal) legal.0).1 in
-    let busy : is_collecting (stage (inode_of scene station) c.file (past journal)) ≡ true =
+    → (i : ℕ) (script_file : ScriptFile) (journal : List Event)
+    → slice_get scene.script_files i ≡ Some script_file
+    → slice_get m.state.journals i ≡ Some journal
+    → (o : Option Collection) → collecting (inode_of scene script_file) (newest_first journal) ≡ o
+    → o ≡ None
+no_collection scene m r i script_file journal es ej None h = refl
+no_collection scene m r i script_file journal es ej (Some c) h =
+    let inode : Inode = inode_of scene script_file in
+    let legal = r.legal.follows i script_file journal es ej in
+    let stands : StageIs (inode_of scene script_file) (newest_first journal) (Some c) =
+    subst (StageIs (inode_of scene script_file) (newest_first journal)) h
+    (stages (inode_of scene script_file) (newest_first journal) legal.0).1 in
+    let busy : is_collecting (stage (inode_of scene script_file) c.file (newest_first journal))
+    ≡ true =
     ap is_collecting stands.0 ∙ stage_busy c.closing c.complete in
-    let alive : is_gone (stage (inode_of scene station) c.file (past journal)) ≡ false =
-    busy_alive (stage (inode_of scene station) c.file (past journal)) busy in
-    let within : c.file < length (past journal) =
-    (lives (inode_of scene station) (past journal) legal.0 c.file alive).0 in
-    let owner = counter_there c.file (past journal) within in
-    let mine : stage (inode_of scene station) c.file (past journal)
-    ≡ stage_in (inode_of scene station) c.file (own_past owner.0 (past journal)) =
-    stage_own (inode_of scene station) owner.0 c.file (past journal) legal.1 owner.1 in
-    let collects : is_collecting (stage_in (inode_of scene station) c.file
-    (own_past owner.0 (past journal))) ≡ true =
+    let alive : is_gone (stage (inode_of scene script_file) c.file (newest_first journal)) ≡ false =
+    busy_alive (stage (inode_of scene script_file) c.file (newest_first journal)) busy in
+    let within : c.file < length (newest_first journal) =
+    (lives (inode_of scene script_file) (newest_first journal) legal.0 c.file alive).0 in
+    let owner = counter_there c.file (newest_first journal) within in
+    let mine : stage (inode_of scene script_file) c.file (newest_first journal)
+    ≡ stage_in (inode_of scene script_file) c.file (own_past owner.0 (newest_first journal)) =
+    stage_own (inode_of scene script_file) owner.0 c.file (newest_first journal) legal.1 owner.1 in
+    let collects : is_collecting (stage_in (inode_of scene script_file) c.file
+    (own_past owner.0 (newest_first journal))) ≡ true =
     ap is_collecting (sym mine) ∙ busy_collects
-    (stage (inode_of scene station) c.file (past journal)) busy in
-    absurd (by_caller scene m r i station journal c owner.0 es ej h
+    (stage (inode_of scene script_file) c.file (newest_first journal)) busy in
+    absurd (by_caller scene m r i script_file journal c owner.0 es ej h
     (counter_signed (length scene.programs) c.file owner.0
-    (past journal) legal.2 owner.1) collects)
+    (newest_first journal) legal.2 owner.1) collects)

@@ -4,7 +4,7 @@ use Rattle.std.specs.Prelude.{reverse}
 use Rattle.inode_events.specs.Files.{can_read, held, holds, is_writer}
 use Rattle.inode_events.specs.Inode.{Inode}
 use Rattle.inode_events.specs.Legal.{EachFollows, May}
-use Rattle.inode_events.specs.Past.{past}
+use Rattle.inode_events.specs.NewestFirst.{newest_first}
 use Rattle.inode_events.specs.declared.deed.How.{How}
 use Rattle.inode_events.specs.declared.told.Event.{Event}
 use Rattle.call_steps.specs.Mind.{Mind, deed_of, plain_step, progress_of, step_by}
@@ -112,13 +112,13 @@ module _ (inode : Inode) (n : ℕ) (p : List Event) (legal : EachFollows inode p
 
 pub next_step_may : NextMay
 next_step_may inode n p h i journal fit legal owned owns =
-    let same : own_past (n + 1) (past journal) ≡ reverse (own inode.settings.mode n p i h) =
+    let same : own_past (n + 1) (newest_first journal) ≡ reverse (own inode.settings.mode n p i h) =
     own_bridge (n + 1) journal ∙ ap reverse owns in
-    may_call inode (n + 1) (past journal) legal owned p (thought inode.settings.mode p h).mind i
-    (call_at p (thought inode.settings.mode p h).mind) refl
+    may_call inode (n + 1) (newest_first journal) legal owned p
+    (thought inode.settings.mode p h).mind i (call_at p (thought inode.settings.mode p h).mind) refl
     (fit (thought inode.settings.mode p h).mind.at)
     (subst (λ (xs : List (ℕ × Event)). Fits p (thought inode.settings.mode p h).mind i
     (λ f. stage_in inode f xs) (λ f. how_in f xs))
     (sym (own_bridge (n + 1) journal ∙ ap reverse owns))
     (fits_history inode n p i fit h (subst AreGood (own_bridge (n + 1) journal ∙ ap reverse owns)
-    (own_good inode (n + 1) (past journal) legal))))
+    (own_good inode (n + 1) (newest_first journal) legal))))

@@ -4,7 +4,7 @@ use Rattle.std.specs.Prelude.{◌⊎◌, option_map, slice_get, unwrap_or}
 use Rattle.std.proofs.lemmas.List.{append-nil}
 use Rattle.inode_events.specs.meta.declared.appraisal.Mode.{Mode}
 use Rattle.call_steps.specs.policy.declared.access.Action.{Action}
-use Rattle.inode_events.specs.Past.{past}
+use Rattle.inode_events.specs.NewestFirst.{newest_first}
 use Rattle.inode_events.specs.declared.deed.How.{How}
 use Rattle.inode_events.specs.declared.told.Event.{Event}
 use Rattle.inode_events.specs.declared.told.Told.{Told}
@@ -22,12 +22,12 @@ use Rattle.call_steps.specs.declared.held.Name.{Name}
 use Rattle.call_steps.specs.declared.held.Name.TheVariants as name
 use Rattle.call_steps.specs.declared.reply.Reply.{Reply}
 use Rattle.run_model.specs.History.{Answer, Thought, call_at, hear_in, step_at, step_in, thought}
-use Rattle.run_model.specs.Scene.{Program, Scene, Station, mode_of}
+use Rattle.run_model.specs.Scene.{Program, Scene, ScriptFile, mode_of}
 use Rattle.run_model.specs.Scene.{inode_of as inode_at}
 use Rattle.run_model.specs.Turns.{State}
 use Rattle.progress_laws.specs.Resting.{MayStep}
 use Rattle.progress_laws.specs.NextSteps.{MayMake}
-use Rattle.progress_laws.specs.Stations.{IsWithin, StepsMay}
+use Rattle.progress_laws.specs.ScriptFiles.{IsWithin, StepsMay}
 use Rattle.progress_laws.proofs.Ready.{Each, each_left, left}
 use Rattle.progress_laws.proofs.Begun.{each_find}
 use Rattle.progress_laws.proofs.Going.{left_same}
@@ -269,28 +269,28 @@ get_within (x ∷ xs) zero l = (x, refl)
 get_within (x ∷ xs) (suc k) l = get_within xs k (omega arith)
 
 scene_may : (scene : Scene) (s : State) (o : Option Step)
-    → length s.journals ≡ length scene.stations → StepWithin (length scene.stations) o
-    → ((i : ℕ) (station : Station) (journal : List Event)
-    → slice_get scene.stations i ≡ Some station → slice_get s.journals i ≡ Some journal
-    → MayMake (inode_at scene station) i (past journal) o)
+    → length s.journals ≡ length scene.script_files → StepWithin (length scene.script_files) o
+    → ((i : ℕ) (script_file : ScriptFile) (journal : List Event)
+    → slice_get scene.script_files i ≡ Some script_file → slice_get s.journals i ≡ Some journal
+    → MayMake (inode_at scene script_file) i (newest_first journal) o)
     → MayStep scene s o
 scene_may scene s None even w f = tt
 scene_may scene s (Some Nothing) even w f = tt
 scene_may scene s (Some (Does i d)) even w f =
-    let a = get_within scene.stations i w in
+    let a = get_within scene.script_files i w in
     let b = get_within s.journals i (subst (λ (k : ℕ). i < k) (sym even) w) in
     (a.0, b.0, a.1, b.1, f i a.0 b.0 a.1 b.1 refl)
-scene_may scene s (Some (Checks i file func mask)) even w f = get_within scene.stations i w
+scene_may scene s (Some (Checks i file func mask)) even w f = get_within scene.script_files i w
 scene_may scene s (Some (Signals d)) even w f = tt
 scene_may scene s (Some (Appends rule)) even w f = tt
 
 pub all_steps_may : StepsMay
 all_steps_may scene s n p h fit even legal owns =
     scene_may scene s (step_at p (thought (mode_of scene) p h).mind) even
-    (call_within (length scene.stations) p (thought (mode_of scene) p h).mind
+    (call_within (length scene.script_files) p (thought (mode_of scene) p h).mind
     (call_at p (thought (mode_of scene) p h).mind)
     (λ c e. (fit (thought (mode_of scene) p h).mind.at c e).1)
-    (range_history (length scene.stations) (mode_of scene) p (λ k c e. (fit k c e).1) h))
-    (λ i station journal a b. next_step_may (inode_at scene station) n p h i journal
-    (λ k c e. (fit k c e).0) (legal i station journal a b).0 (legal i station journal a b).1
+    (range_history (length scene.script_files) (mode_of scene) p (λ k c e. (fit k c e).1) h))
+    (λ i script_file journal a b. next_step_may (inode_at scene script_file) n p h i journal
+    (λ k c e. (fit k c e).0) (legal i script_file journal a b).0 (legal i script_file journal a b).1
     (owns i journal b))

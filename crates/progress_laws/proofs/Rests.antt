@@ -13,8 +13,8 @@ rests scene s thoughts n p t h fit even legal at stands events signals = record 
   signals = signals;
   may = subst (λ (x : Thought). MayStep scene s (step_at p x.mind)) stands
       (all_steps_may scene s n p h (fit n p at) even
-      (λ i station journal a b. (
-        (legal.follows i station journal a b).0,
-        (legal.follows i station journal a b).1,
+      (λ i script_file journal a b. (
+        (legal.follows i script_file journal a b).0,
+        (legal.follows i script_file journal a b).1,
       )) events);
 }

@@ -11,7 +11,7 @@ use Rattle.inode_events.specs.policy.declared.access.Action.{Action}
 use Rattle.inode_events.specs.policy.declared.rule.Func.{Func}
 use Rattle.inode_events.specs.Asked.{asked, list_after, outcome}
 use Rattle.inode_events.specs.Inode.{Inode}
-use Rattle.inode_events.specs.Past.{past}
+use Rattle.inode_events.specs.NewestFirst.{newest_first}
 use Rattle.inode_events.specs.Semaphores.{semaphore_says}
 use Rattle.inode_events.specs.State.{metadata}
 use Rattle.inode_events.specs.declared.deed.Deed.{Deed}
@@ -22,8 +22,8 @@ use Rattle.call_steps.specs.Mind.{Step}
 use Rattle.call_steps.specs.Mind.{Nothing, Does, Checks, Signals, Appends}
 use Rattle.run_model.specs.History.{Thought, step_at, who_at}
 use Rattle.run_model.specs.Rounds.{any_moves, is_moved, moves, moves_at, numbers}
-use Rattle.run_model.specs.Scene.{Program, Scene, Station, decided, inode_of, mode_of, rules_with}
-use Rattle.run_model.specs.Turns.{Moment, State, Turned, go, go_check, go_does, go_event, go_signal, go_step, hear_told, journal_at, state_on, turn, turn_of, turned}
+use Rattle.run_model.specs.Scene.{Program, Scene, ScriptFile, decided, inode_of, mode_of, rules_with}
+use Rattle.run_model.specs.Turns.{Moment, State, Turned, hear_told, journal_at, state_on, step_check, step_does, step_due, step_event, step_signal, step_task, turn, turn_of, turned}
 use Rattle.progress_laws.specs.Resting.{RoundAtRest}
 use Rattle.list_lemmas.proofs.Containing.{has_cases, has_none}
 
@@ -46,50 +46,50 @@ event_same scene n p s t i inode d action rules (Some x) h = cc
 event_same scene n p s t i inode d action rules None h =
     let a : slice_set s.journals i (journal_at s i ++ []) ≡ s.journals =
     journals_same s.journals i in
-    let b : list_after s.list (asked inode d (past (journal_at s i))) None ≡ s.list =
-    list_same s.list (asked inode d (past (journal_at s i))) in
+    let b : list_after s.list (asked inode d (newest_first (journal_at s i))) None ≡ s.list =
+    list_same s.list (asked inode d (newest_first (journal_at s i))) in
     ((λ k. record s { journals = a k; list = b k }), refl)
 
 does_same : (scene : Scene) (n : ℕ) (p : Program) (s : State) (t : Thought) (i : ℕ)
-    (o : Option Station) (d : Deed) → is_moved (go_does scene n p s t i o d).turn ≡ false
-    → IsSame s t (go_does scene n p s t i o d)
+    (o : Option ScriptFile) (d : Deed) → is_moved (step_does scene n p s t i o d).turn ≡ false
+    → IsSame s t (step_does scene n p s t i o d)
 does_same scene n p s t i None d h = (refl, refl)
-does_same scene n p s t i (Some station) d h =
-    event_same scene n p s t i (inode_of scene station) d _ 0
-    (outcome (inode_of scene station) s.list d (past (journal_at s i))) h
+does_same scene n p s t i (Some script_file) d h =
+    event_same scene n p s t i (inode_of scene script_file) d _ 0
+    (outcome (inode_of scene script_file) s.list d (newest_first (journal_at s i))) h
 
 check_same : (scene : Scene) (n : ℕ) (p : Program) (s : State) (t : Thought) (i : ℕ)
-    (o : Option Station) (file : ℕ) (func : Func) (mask : ℕ)
-    → is_moved (go_check scene n p s t i o file func mask).turn ≡ false
-    → IsSame s t (go_check scene n p s t i o file func mask)
+    (o : Option ScriptFile) (file : ℕ) (func : Func) (mask : ℕ)
+    → is_moved (step_check scene n p s t i o file func mask).turn ≡ false
+    → IsSame s t (step_check scene n p s t i o file func mask)
 check_same scene n p s t i None file func mask h = (refl, refl)
-check_same scene n p s t i (Some station) file func mask h =
+check_same scene n p s t i (Some script_file) file func mask h =
     let action : Action =
-    decided (rules_with scene s.added) p.cred station.place
-    (metadata (past (journal_at s i))) func mask in
+    decided (rules_with scene s.added) p.cred script_file.place
+    (metadata (newest_first (journal_at s i))) func mask in
     let d : Deed =
-    deed.Check file func (decided (rules_with scene s.added) p.cred station.place
-    (metadata (past (journal_at s i))) func mask) (length (rules_with scene s.added)) in
-    event_same scene n p s t i (inode_of scene station) d action
-    (length (rules_with scene s.added)) (outcome (inode_of scene station) s.list d
-    (past (journal_at s i))) h
+    deed.Check file func (decided (rules_with scene s.added) p.cred script_file.place
+    (metadata (newest_first (journal_at s i))) func mask) (length (rules_with scene s.added)) in
+    event_same scene n p s t i (inode_of scene script_file) d action
+    (length (rules_with scene s.added)) (outcome (inode_of scene script_file) s.list d
+    (newest_first (journal_at s i))) h
 
 signal_same : (scene : Scene) (n : ℕ) (p : Program) (s : State) (t : Thought) (d : Deed)
-    (o : Option Told) → is_moved (turn_of o) ≡ false → IsSame s t (go_signal scene n p s t d o)
+    (o : Option Told) → is_moved (turn_of o) ≡ false → IsSame s t (step_signal scene n p s t d o)
 signal_same scene n p s t d (Some x) h = cc
 signal_same scene n p s t d None h = let a : s.signals ++ [] ≡ s.signals =
     append-nil s.signals in ((λ k. record s { signals = a k }), refl)
 
 step_same : (scene : Scene) (n : ℕ) (p : Program) (s : State) (t : Thought) (o : Option Step)
-    → is_moved (go_step scene n p s t o).turn ≡ false → IsSame s t (go_step scene n p s t o)
+    → is_moved (step_due scene n p s t o).turn ≡ false → IsSame s t (step_due scene n p s t o)
 step_same scene n p s t None h = (refl, refl)
 step_same scene n p s t (Some Nothing) h = cc
 step_same scene n p s t (Some (Does i d)) h =
-    does_same scene n p s t i (slice_get scene.stations i) d h
+    does_same scene n p s t i (slice_get scene.script_files i) d h
 step_same scene n p s t (Some (Checks i file func mask)) h =
-    check_same scene n p s t i (slice_get scene.stations i) file func mask h
+    check_same scene n p s t i (slice_get scene.script_files i) file func mask h
 step_same scene n p s t (Some (Signals d)) h =
-    signal_same scene n p s t d (semaphore_says (past s.signals) d) h
+    signal_same scene n p s t d (semaphore_says (newest_first s.signals) d) h
 step_same scene n p s t (Some (Appends rule)) h = cc
 
 set_same : {A : Type 0} (xs : List A) (k : ℕ) (x : A) → slice_get xs k ≡ Some x
@@ -101,9 +101,9 @@ turned_same : (scene : Scene) (m : Moment) (n : ℕ) (o : Option Program) (q : O
 turned_same scene m n None q e h = refl
 turned_same scene m n (Some p) None e h = refl
 turned_same scene m n (Some p) (Some t) e h =
-    let same : IsSame m.state t (go scene n p m.state t) =
+    let same : IsSame m.state t (step_task scene n p m.state t) =
     step_same scene n p m.state t (step_at p t.mind) h in
-    let thoughts : slice_set m.thoughts n (go scene n p m.state t).thought ≡ m.thoughts =
+    let thoughts : slice_set m.thoughts n (step_task scene n p m.state t).thought ≡ m.thoughts =
     ap (slice_set m.thoughts n) same.1 ∙ set_same m.thoughts n t e in
     (λ k. record { state = same.0 k; thoughts = thoughts k })
 

@@ -6,7 +6,7 @@ use Rattle.std.proofs.lemmas.List.{reverse-append}
 use Rattle.std.proofs.lemmas.List.Elements.{All-head, All-tail}
 use Rattle.grow_list.specs.Entries.{entries_from}
 use Rattle.inode_events.specs.Callers.{caller_of}
-use Rattle.inode_events.specs.Past.{past}
+use Rattle.inode_events.specs.NewestFirst.{newest_first}
 use Rattle.inode_events.specs.Semaphores.{LegalSemaphores, left, is_post, is_wait, posts, semaphore_says, waits}
 use Rattle.inode_events.specs.declared.deed.Deed.{Deed}
 use Rattle.inode_events.specs.declared.deed.Deed.TheVariants as deed
@@ -197,8 +197,9 @@ tally_reverse on_deed (x ∷ xs) =
     ap (tally on_deed) (reverse-append (x ∷ []) xs) ∙ omega arith
 
 pub count_past : (sem : ℕ) (list : List Event)
-    → (posts sem (past list) ≡ posts sem list) × (waits sem (past list) ≡ waits sem list)
-unfolding past
+    → (posts sem (newest_first list) ≡ posts sem list)
+    × (waits sem (newest_first list) ≡ waits sem list)
+unfolding newest_first
 count_past sem list = (
   posts_tally sem (reverse list) ∙ tally_reverse (is_post sem) list ∙ sym (posts_tally sem list),
   waits_tally sem (reverse list) ∙ tally_reverse (is_wait sem) list ∙ sym (waits_tally sem list),

@@ -3,7 +3,7 @@ use Rattle.std.specs.Prelude.{◌≡◌, ℕ, Bool, true, false, List, reverse, 
 use Rattle.inode_meta.specs.declared.appraisal.Mode.{Mode}
 use Rattle.inode_events.specs.Inode.{Inode}
 use Rattle.inode_events.specs.Legal.{EachFollows}
-use Rattle.inode_events.specs.Past.{past}
+use Rattle.inode_events.specs.NewestFirst.{newest_first}
 use Rattle.inode_events.specs.declared.deed.Deed.{Deed}
 use Rattle.inode_events.specs.declared.deed.Deed.TheVariants as deed
 use Rattle.inode_events.specs.declared.told.Event.{Event}
@@ -32,6 +32,6 @@ abbrev pub BusyOfHistory : Type 0
 BusyOfHistory =
     (inode : Inode) (mode : Mode) (n : ℕ) (p : Program) (h : List Answer) (i : ℕ)
     (journal : List Event) (f : ℕ)
-    → EachFollows inode (past journal) → events_of n journal ≡ own mode n p i h
+    → EachFollows inode (newest_first journal) → events_of n journal ≡ own mode n p i h
     → is_collecting (stage_in inode f (reverse (own mode n p i h))) ≡ true
     → (d : Deed) × (step_at p (thought mode p h).mind ≡ Some (Does i d)) × GoesOn f d

@@ -4,7 +4,7 @@ use Rattle.call_steps.specs.policy.declared.access.Action.{Action}
 use Rattle.inode_events.specs.Files.{is_writer}
 use Rattle.inode_events.specs.Inode.{Inode}
 use Rattle.inode_events.specs.Legal.{EachFollows, May}
-use Rattle.inode_events.specs.Past.{past}
+use Rattle.inode_events.specs.NewestFirst.{newest_first}
 use Rattle.inode_events.specs.declared.deed.Deed.TheVariants as deed
 use Rattle.inode_events.specs.declared.told.Event.{Event}
 use Rattle.call_steps.specs.Mind.{Step}
@@ -32,6 +32,6 @@ MayMake inode i before _ = Unit {0}
 abbrev pub NextMay : Type 0
 NextMay = (inode : Inode) (n : ℕ) (p : Program) (h : List Answer) (i : ℕ) (journal : List Event)
     → ((k : ℕ) (c : Call) → slice_get p.calls k ≡ Some c → IsFit c)
-    → EachFollows inode (past journal) → IsOwned (past journal)
+    → EachFollows inode (newest_first journal) → IsOwned (newest_first journal)
     → events_of n journal ≡ own inode.settings.mode n p i h
-    → MayMake inode i (past journal) (step_at p (thought inode.settings.mode p h).mind)
+    → MayMake inode i (newest_first journal) (step_at p (thought inode.settings.mode p h).mind)

@@ -4,7 +4,7 @@ use Rattle.inode_meta.specs.declared.appraisal.Mode.{Mode}
 use Rattle.inode_events.specs.Callers.{caller_of}
 use Rattle.inode_events.specs.Inode.{Inode}
 use Rattle.inode_events.specs.Legal.{EachFollows, May}
-use Rattle.inode_events.specs.Past.{past}
+use Rattle.inode_events.specs.NewestFirst.{newest_first}
 use Rattle.inode_events.specs.Semaphores.{LegalSemaphores, posts, waits}
 use Rattle.inode_events.specs.declared.deed.Deed.{Deed}
 use Rattle.inode_events.specs.declared.deed.Deed.TheVariants as deed
@@ -16,8 +16,8 @@ use Rattle.run_model.specs.Ended.{all_done, how_many, is_stuck, posted, posts_to
 use Rattle.run_model.specs.History.{Answer, Thought, own, own_signals, step_at, thought}
 use Rattle.run_model.specs.Rounds.{all_tasks, any_moves, is_moved, moves}
 use Rattle.run_model.specs.Served.{events_of}
-use Rattle.run_model.specs.Scene.{Program, Scene, Station, inode_of, mode_of}
-use Rattle.run_model.specs.Turns.{Moment, State, go}
+use Rattle.run_model.specs.Scene.{Program, Scene, ScriptFile, inode_of, mode_of}
+use Rattle.run_model.specs.Turns.{Moment, State, step_task}
 use Rattle.inode_events.specs.Stage.{is_collecting, stage_in}
 
 -- the deed continues or ends the collection of the file
@@ -31,10 +31,12 @@ GoesOn f _ = ⊥
 -- the next step may be made: its inode exists, and its deed may be done
 abbrev pub MayStep : Scene → State → Option Step → Type 0
 MayStep scene s (Some (Does i d)) =
-    (station : Station) × (journal : List Event) × (slice_get scene.stations i ≡ Some station)
-    × (slice_get s.journals i ≡ Some journal) × May (inode_of scene station) (past journal) d
+    (script_file : ScriptFile) × (journal : List Event)
+    × (slice_get scene.script_files i ≡ Some script_file)
+    × (slice_get s.journals i ≡ Some journal)
+    × May (inode_of scene script_file) (newest_first journal) d
 MayStep scene s (Some (Checks i file func mask)) =
-    (station : Station) × (slice_get scene.stations i ≡ Some station)
+    (script_file : ScriptFile) × (slice_get scene.script_files i ≡ Some script_file)
 MayStep scene s _ = Unit {0}
 
 -- task n has made the steps of a history, and its next step may be made
@@ -49,11 +51,12 @@ pub record Resting (scene : Scene) (s : State) (n : ℕ) (p : Program) (t : Thou
 -- the lists are legal, and each event is by one of the tasks
 pub record AreLegal (scene : Scene) (s : State) (thoughts : List Thought) : Type 0 where
   pub thoughts_even : length thoughts ≡ length scene.programs
-  pub follows : (i : ℕ) (station : Station) (journal : List Event)
-      → slice_get scene.stations i ≡ Some station → slice_get s.journals i ≡ Some journal
-      → EachFollows (inode_of scene station) (past journal) × IsOwned (past journal)
-      × All (λ e. caller_of e ≤ length scene.programs) (past journal)
-  pub are_signals : LegalSemaphores (past s.signals)
+  pub follows : (i : ℕ) (script_file : ScriptFile) (journal : List Event)
+      → slice_get scene.script_files i ≡ Some script_file → slice_get s.journals i ≡ Some journal
+      → EachFollows (inode_of scene script_file) (newest_first journal)
+      × IsOwned (newest_first journal)
+      × All (λ e. caller_of e ≤ length scene.programs) (newest_first journal)
+  pub are_signals : LegalSemaphores (newest_first s.signals)
   pub signed : All (λ e. (0 < caller_of e) × (caller_of e ≤ length scene.programs)) s.signals
 
 -- a moment of a run: the lists are legal, and each task has made the steps of a history

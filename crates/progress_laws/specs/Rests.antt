@@ -8,20 +8,20 @@ use Rattle.run_model.specs.Served.{events_of}
 use Rattle.run_model.specs.Turns.{State}
 use Rattle.progress_laws.specs.Resting.{AreLegal, Resting}
 use Rattle.progress_laws.specs.NextSteps.{IsFit}
-use Rattle.progress_laws.specs.Stations.{IsWithin}
+use Rattle.progress_laws.specs.ScriptFiles.{IsWithin}
 
 -- the calls of each program are valid in a script, and the inodes that they name exist
 abbrev pub AreFit : Scene → Type 0
 AreFit scene =
     (n : ℕ) (p : Program) → slice_get scene.programs n ≡ Some p → (k : ℕ) (c : Call)
     → slice_get p.calls k ≡ Some c
-    → IsFit c × IsWithin (length scene.stations) c
+    → IsFit c × IsWithin (length scene.script_files) c
 
 abbrev pub RestsByHistory : Type 0
 RestsByHistory =
     (scene : Scene) (s : State) (thoughts : List Thought) (n : ℕ) (p : Program) (t : Thought)
     (h : List Answer)
-    → AreFit scene → length s.journals ≡ length scene.stations → AreLegal scene s thoughts
+    → AreFit scene → length s.journals ≡ length scene.script_files → AreLegal scene s thoughts
     → slice_get scene.programs n ≡ Some p
     → thought (mode_of scene) p h ≡ t
     → ((i : ℕ) (journal : List Event) → slice_get s.journals i ≡ Some journal

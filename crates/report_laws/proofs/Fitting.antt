@@ -11,12 +11,12 @@ use Rattle.ima_templates.specs.declared.entry.Entry.{Entry}
 use Rattle.inode_meta.specs.declared.measurement.Template.TheVariants.{Ima}
 use Rattle.inode_events.specs.Legal.{Legal}
 use Rattle.inode_events.specs.Merged.{Journal}
-use Rattle.inode_events.specs.Past.{past}
+use Rattle.inode_events.specs.NewestFirst.{newest_first}
 use Rattle.inode_events.specs.declared.told.Event.{Event}
 use Rattle.call_steps.specs.declared.ending.Ending.{Ending}
 use Rattle.run_model.specs.EndedValue.{EndedTaskValue as EndedTask, ended_of, inodes_ended, tasks_ended}
 use Rattle.run_model.specs.History.{Thought, own}
-use Rattle.run_model.specs.Scene.{Program, Scene, Station, inode_of, mode_of}
+use Rattle.run_model.specs.Scene.{Program, Scene, ScriptFile, inode_of, mode_of}
 use Rattle.run_model.specs.Served.{IsServed, Run}
 use Rattle.run_model.specs.Shown.{IsShown, journals_of}
 use Rattle.shown_laws.proofs.Named.{list_named}
@@ -50,9 +50,9 @@ names_clean (x ∷ xs) h = (
   names_clean xs h.1,
 )
 
-inodes_fit : (scene : Scene) (ss : List Station) (js : List (List Event))
-    → AllByRecursion (λ (s : Station). IsMeasuredPath Ima s.path) ss
-    → AllByRecursion (λ (s : Station). AreNamed s.birth.attrs) ss
+inodes_fit : (scene : Scene) (ss : List ScriptFile) (js : List (List Event))
+    → AllByRecursion (λ (s : ScriptFile). IsMeasuredPath Ima s.path) ss
+    → AllByRecursion (λ (s : ScriptFile). AreNamed s.birth.attrs) ss
     → AllByRecursion (λ (j : Journal). Legal j.inode j.events) (journals_of scene ss js)
     → AllByRecursion (λ (j : List Event). AllByRecursion (λ (e : Event). IsDeed e.deed) j) js
     → AllByRecursion FitsInode (inodes_ended scene ss js)
@@ -62,7 +62,7 @@ inodes_fit scene (s ∷ ss) (j ∷ js) paths attrs legal deeds = (
   record {
     path = graphic_clean s.path (recursion_from_All IsGraphic s.path paths.0.graphic);
     deeds = deeds.0;
-    attrs = attributes_named (inode_of scene s) (past j) attrs.0 legal.0.1
+    attrs = attributes_named (inode_of scene s) (newest_first j) attrs.0 legal.0.1
         (each_past (λ (e : Event). IsDeed e.deed) j deeds.0);
   },
   inodes_fit scene ss js paths.1 attrs.1 legal.1 deeds.1,
@@ -81,20 +81,20 @@ module _ (scene : Scene) (ending : Ending) (run : Run) (names : HasNames scene)
     (shown : IsShown scene ending run) where
   -- the events of a task have replies that can be read back
   own_replies : (n : ℕ) (p : Program) (t : Thought) (task : IsServed scene run n p t) (i : ℕ)
-      → i < length scene.stations
+      → i < length scene.script_files
       → AllByRecursion (λ (y : ℕ × Event). IsToldReply y.1.told)
       (own (mode_of scene) n p i task.history)
   own_replies n p t task i below =
-      let s = some_at scene.stations i below in
+      let s = some_at scene.script_files i below in
       let j = some_at run.journals i (omega (arith, below, shown.served.journals)) in
-      let legal : Legal (inode_of scene s.0) (past j.0) =
-      journal_has (λ (x : Journal). Legal x.inode x.events) scene scene.stations run.journals i
+      let legal : Legal (inode_of scene s.0) (newest_first j.0) =
+      journal_has (λ (x : Journal). Legal x.inode x.events) scene scene.script_files run.journals i
       s.0 j.0 shown.legal s.1 j.1 in
       subst (λ (l : List (ℕ × Event)). AllByRecursion (λ (y : ℕ × Event). IsToldReply y.1.told) l)
       (task.events i j.0 j.1)
       (each_entry (λ (e : Event). IsToldReply e.told) (n + 1) 0 (map caller_of j.0) j.0
       (each_from_past (λ (e : Event). IsToldReply e.told) j.0
-      (told_replies (inode_of scene s.0) (past j.0) legal.1)))
+      (told_replies (inode_of scene s.0) (newest_first j.0) legal.1)))
 
   replies_fit : (n : ℕ) (p : Program) (t : Thought) → slice_get scene.programs n ≡ Some p
       → slice_get run.thoughts n ≡ Some t → AllByRecursion IsReply t.replies
@@ -109,11 +109,11 @@ module _ (scene : Scene) (ending : Ending) (run : Run) (names : HasNames scene)
     names = names_clean run.list (recursion_from_All IsNamed run.list
         (list_named scene ending run names.forms shown));
     rules = added_named scene run shown.served names.calls;
-    inodes = inodes_fit scene scene.stations run.journals
-        (recursion_from_All (λ (s : Station). IsMeasuredPath Ima s.path) scene.stations
+    inodes = inodes_fit scene scene.script_files run.journals
+        (recursion_from_All (λ (s : ScriptFile). IsMeasuredPath Ima s.path) scene.script_files
         names.forms.paths) names.attrs
         (recursion_from_All (λ (j : Journal). Legal j.inode j.events)
-        (journals_of scene scene.stations run.journals) shown.legal)
+        (journals_of scene scene.script_files run.journals) shown.legal)
         (each_from_places (λ (j : List Event). AllByRecursion (λ (e : Event). IsDeed e.deed) j)
         run.journals (journal_named scene run shown.served names.calls));
     replies = tasks_fit scene.programs run.thoughts replies_fit;

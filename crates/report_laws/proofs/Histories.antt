@@ -37,9 +37,9 @@ all_middle q u v w h =
 module _ (scene : Scene) (a b : Run) (n : ℕ) (p : Program) (meet : Meet scene a b)
     (ha hb : List Answer)
     (sa : AreSuited scene a p ha) (sb : AreSuited scene b p hb)
-    (same : (i : ℕ) → i < length scene.stations → map (pr scene) (own (mode_of scene) n p i ha)
+    (same : (i : ℕ) → i < length scene.script_files → map (pr scene) (own (mode_of scene) n p i ha)
     ≡ map (pr scene) (own (mode_of scene) n p i hb))
-    (nb : (i : ℕ) → i < length scene.stations → list_all no_birth (own (mode_of scene) n p i ha)
+    (nb : (i : ℕ) → i < length scene.script_files → list_all no_birth (own (mode_of scene) n p i ha)
     ≡ true) where
   -- histories of one length lead to the same mind and to alike events
   alike_from : (ga gb fa fb : List Answer) → ha ≡ fa ++ ga → hb ≡ fb ++ gb → length ga ≡ length gb
@@ -71,14 +71,14 @@ module _ (scene : Scene) (a b : Run) (n : ℕ) (p : Program) (meet : Meet scene 
       let whole_b = λ (i : ℕ). ap (own (mode_of scene) n p i) eb
       ∙ (own_after scene n p i fb (y ∷ gb)).1
       ∙ sym (ap (λ l. l ++ (own_after scene n p i fb (y ∷ gb)).0) (mine i)) in
-      let shown = λ (i : ℕ) (below : i < length scene.stations).
+      let shown = λ (i : ℕ) (below : i < length scene.script_files).
       middle (pr scene) (own (mode_of scene) n p i ga) (own (mode_of scene) n p i gb)
       (event_in i w s x) (event_in i w s y)
       (own_after scene n p i fa (x ∷ ga)).0 (own_after scene n p i fb (y ∷ gb)).0
       (length_alike (own (mode_of scene) n p i ga) (own (mode_of scene) n p i gb) (before.events i))
       (event_length i w s x y)
       (sym (ap (map (pr scene)) (whole_a i)) ∙ same i below ∙ ap (map (pr scene)) (whole_b i)) in
-      let births = λ (i : ℕ) (below : i < length scene.stations).
+      let births = λ (i : ℕ) (below : i < length scene.script_files).
       all_middle no_birth (own (mode_of scene) n p i ga) (event_in i w s x)
       (own_after scene n p i fa (x ∷ ga)).0
       (subst (λ l. list_all no_birth l ≡ true) (whole_a i) (nb i below)) in
@@ -98,13 +98,13 @@ module _ (scene : Scene) (a b : Run) (n : ℕ) (p : Program) (meet : Meet scene 
             ∙ ap (map al) (mine i);
       }
 
-  same_length : (i : ℕ) → i < length scene.stations → length (own (mode_of scene) n p i ha)
+  same_length : (i : ℕ) → i < length scene.script_files → length (own (mode_of scene) n p i ha)
       ≡ length (own (mode_of scene) n p i hb)
   same_length i below = sym (length_map (pr scene) (own (mode_of scene) n p i ha))
       ∙ ap length (same i below) ∙ length_map (pr scene) (own (mode_of scene) n p i hb)
 
   -- whichever history is longer, its further steps made no event
-  pub whole_alike : (i : ℕ) → i < length scene.stations → map al (own (mode_of scene) n p i ha)
+  pub whole_alike : (i : ℕ) → i < length scene.script_files → map al (own (mode_of scene) n p i ha)
       ≡ map al (own (mode_of scene) n p i hb)
   whole_alike i below = elim (cases_Bool (nat_le (length ha) (length hb))) [
     | inl le ↦
@@ -243,7 +243,7 @@ same_entries scene n xs ys e =
 
 -- the two journals of each inode print alike
 abbrev pub Shows : Scene → Run → Run → Type 0
-Shows scene a b = (i : ℕ) → i < length scene.stations → (x : List Event) × (y : List Event)
+Shows scene a b = (i : ℕ) → i < length scene.script_files → (x : List Event) × (y : List Event)
     × (slice_get a.journals i ≡ Some x) × (slice_get b.journals i ≡ Some y)
     × (map (printed scene.settings.template (grows scene)) x
     ≡ map (printed scene.settings.template (grows scene)) y)
@@ -252,14 +252,14 @@ Shows scene a b = (i : ℕ) → i < length scene.stations → (x : List Event) �
 pub task_alike : (scene : Scene) (a b : Run) (n : ℕ) (p : Program) (ta tb : Thought)
     → Meet scene a b → Shows scene a b
     → IsServed scene a n p ta → IsServed scene b n p tb
-    → (i : ℕ) (x y : List Event) → i < length scene.stations → slice_get a.journals i ≡ Some x
+    → (i : ℕ) (x y : List Event) → i < length scene.script_files → slice_get a.journals i ≡ Some x
     → slice_get b.journals i ≡ Some y
     → map al (events_of n x) ≡ map al (events_of n y)
 task_alike scene a b n p ta tb meet shows sa sb i x y below ex ey =
-    let same = λ (k : ℕ) (at : k < length scene.stations). (let s = shows k at in
+    let same = λ (k : ℕ) (at : k < length scene.script_files). (let s = shows k at in
     ap (map (pr scene)) (sym (sa.events k s.0 s.2)) ∙ same_entries scene n s.0 s.1 s.4
     ∙ ap (map (pr scene)) (sb.events k s.1 s.3)) in
-    let births = λ (k : ℕ) (at : k < length scene.stations). (let s = shows k at in
+    let births = λ (k : ℕ) (at : k < length scene.script_files). (let s = shows k at in
     subst (λ l. list_all no_birth l ≡ true) (sa.events k s.0 s.2) (no_births n 0 s.0)) in
     ap (map al) (sa.events i x ex) ∙ whole_alike scene a b n p meet sa.history sb.history sa.suited
     sb.suited same births i below ∙ sym (ap (map al) (sb.events i y ey))

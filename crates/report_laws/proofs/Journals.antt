@@ -12,7 +12,7 @@ use Rattle.inode_meta.specs.declared.step.Who.{Who}
 use Rattle.inode_events.specs.Callers.{caller_in, caller_of}
 use Rattle.inode_events.specs.Inode.{Inode}
 use Rattle.inode_events.specs.Legal.{EachFollows, Follows}
-use Rattle.inode_events.specs.Past.{past}
+use Rattle.inode_events.specs.NewestFirst.{newest_first}
 use Rattle.inode_events.specs.Says.{says, placed_in}
 use Rattle.inode_events.specs.State.{changed, metadata, metadata_after}
 use Rattle.inode_events.specs.declared.deed.Deed.{Deed}
@@ -240,8 +240,9 @@ all_after P [] v h = h
 all_after P (x ∷ u) v h = all_after P u v h.1
 
 -- the events so far, newest first, are those from place k on and then those before it
-past_parts : (k : ℕ) (x : List Event) → past x ≡ past (drop k x) ++ past (take k x)
-unfolding past
+past_parts : (k : ℕ) (x : List Event)
+    → newest_first x ≡ newest_first (drop k x) ++ newest_first (take k x)
+unfolding newest_first
 past_parts k x = ap reverse (sym (take-append-drop k x)) ∙ reverse-append (take k x) (drop k x)
 
 -- reversing commutes with mapping
@@ -252,8 +253,9 @@ map_reverse f (x ∷ xs) =
     ∙ ap (λ l. l ++ f x ∷ []) (map_reverse f xs) ∙ sym (reverse-append (f x ∷ []) (map f xs))
 
 -- mapping commutes with putting the newest event first
-pub map_past : (f : Event → Event) (xs : List Event) → map f (past xs) ≡ past (map f xs)
-unfolding past
+pub map_past : (f : Event → Event) (xs : List Event)
+    → map f (newest_first xs) ≡ newest_first (map f xs)
+unfolding newest_first
 map_past f xs = map_reverse f xs
 
 -- taking the first elements commutes with mapping
@@ -265,23 +267,23 @@ map_take f (suc k) (x ∷ xs) = ap (λ l. f x ∷ l) (map_take f k xs)
 
 -- journals that print alike have the same metadata at each place
 pub same_meta : (scene : Scene) (inode : Inode) (k : ℕ) (x y : List Event)
-    → EachFollows inode (past x) → EachFollows inode (past y)
+    → EachFollows inode (newest_first x) → EachFollows inode (newest_first y)
     → map (printed scene.settings.template (grows scene)) x
     ≡ map (printed scene.settings.template (grows scene)) y
-    → metadata (past (take k x)) ≡ metadata (past (take k y))
+    → metadata (newest_first (take k x)) ≡ metadata (newest_first (take k y))
 same_meta scene inode k x y hx hy e =
     let f = printed scene.settings.template (grows scene) in
-    let bx = all_after (IsBorn inode.birth) (past (drop k x)) (past (take k x))
+    let bx = all_after (IsBorn inode.birth) (newest_first (drop k x)) (newest_first (take k x))
     (subst (AllByRecursion (IsBorn inode.birth)) (past_parts k x)
-    (born_all inode (past x) hx)) in
-    let by = all_after (IsBorn inode.birth) (past (drop k y)) (past (take k y))
+    (born_all inode (newest_first x) hx)) in
+    let by = all_after (IsBorn inode.birth) (newest_first (drop k y)) (newest_first (take k y))
     (subst (AllByRecursion (IsBorn inode.birth)) (past_parts k y)
-    (born_all inode (past y) hy)) in
-    let shown : map f (past (take k x)) ≡ map f (past (take k y)) =
-    map_past f (take k x) ∙ ap past (map_take f k x ∙ ap (take k) e ∙ sym (map_take f k y))
+    (born_all inode (newest_first y) hy)) in
+    let shown : map f (newest_first (take k x)) ≡ map f (newest_first (take k y)) =
+    map_past f (take k x) ∙ ap newest_first (map_take f k x ∙ ap (take k) e ∙ sym (map_take f k y))
     ∙ sym (map_past f (take k y)) in
-    meta_is scene inode.birth (past (take k x)) bx ∙ ap (meta_from inode.birth) shown
-    ∙ sym (meta_is scene inode.birth (past (take k y)) by)
+    meta_is scene inode.birth (newest_first (take k x)) bx ∙ ap (meta_from inode.birth) shown
+    ∙ sym (meta_is scene inode.birth (newest_first (take k y)) by)
 
 -- ---- outcomes are determined by the journal
 
@@ -426,6 +428,6 @@ same_past inode (x ∷ xs) (y ∷ ys) p q e =
     λ i. (one ∙ two) i ∷ before i
 
 -- journals with the same events so far are equal
-pub past_once : (xs ys : List Event) → past xs ≡ past ys → xs ≡ ys
-unfolding past
+pub past_once : (xs ys : List Event) → newest_first xs ≡ newest_first ys → xs ≡ ys
+unfolding newest_first
 past_once xs ys e = sym (reverse-reverse xs) ∙ ap reverse e ∙ reverse-reverse ys

@@ -9,7 +9,7 @@ use Rattle.std.proofs.lemmas.List.Elements.{recursion_from_All}
 use Rattle.inode_meta.specs.declared.appraisal.Mode.{Mode}
 use Rattle.inode_meta.specs.declared.step.Who.{Who}
 use Rattle.inode_events.specs.Callers.{caller_in, caller_of}
-use Rattle.inode_events.specs.Past.{past}
+use Rattle.inode_events.specs.NewestFirst.{newest_first}
 use Rattle.inode_events.specs.declared.deed.Deed.{Deed}
 use Rattle.inode_events.specs.declared.deed.Deed.TheVariants as deed
 use Rattle.inode_events.specs.declared.told.Event.{Event}
@@ -66,17 +66,17 @@ each_reverse {X} P (x ∷ xs) h =
     (each_append P (reverse xs) (x ∷ []) (each_reverse P xs h.1) (h.0, tt))
 
 -- what holds of the events of a journal, newest first, holds of its events
-pub each_from_past : (P : Event → Type 0) (journal : List Event) → AllByRecursion P (past journal)
-    → AllByRecursion P journal
-unfolding past
+pub each_from_past : (P : Event → Type 0) (journal : List Event)
+    → AllByRecursion P (newest_first journal) → AllByRecursion P journal
+unfolding newest_first
 each_from_past P journal h =
     subst (λ (es : List Event). AllByRecursion P es) (reverse-reverse journal)
     (each_reverse P (reverse journal) h)
 
 -- what holds of the events of a journal holds of them newest first
 pub each_past : (P : Event → Type 0) (journal : List Event) → AllByRecursion P journal
-    → AllByRecursion P (past journal)
-unfolding past
+    → AllByRecursion P (newest_first journal)
+unfolding newest_first
 each_past P journal h = each_reverse P journal h
 
 -- what holds of a list holds of the entries of each caller

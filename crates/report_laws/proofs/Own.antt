@@ -6,7 +6,7 @@ use Rattle.std.proofs.lemmas.Bool.{cases_Bool, false≢true}
 use Rattle.std.proofs.lemmas.Bool.Decides.{nat_tests}
 use Rattle.std.proofs.lemmas.List.{append-nil}
 use Rattle.inode_meta.specs.declared.step.Who.{Who}
-use Rattle.inode_events.specs.Past.{past}
+use Rattle.inode_events.specs.NewestFirst.{newest_first}
 use Rattle.inode_events.specs.State.{metadata}
 use Rattle.inode_events.specs.declared.deed.Deed.{Deed}
 use Rattle.inode_events.specs.declared.deed.Deed.TheVariants as deed
@@ -172,7 +172,7 @@ pub record Meet (scene : Scene) (a b : Run) : Type 0 where
   pub added : a.added ≡ b.added
   pub few : grows scene ≡ false → a.added ≡ []
   pub meta : (i k : ℕ) (x y : List Event) → slice_get a.journals i ≡ Some x → slice_get b.journals i
-      ≡ Some y → metadata (past (take k x)) ≡ metadata (past (take k y))
+      ≡ Some y → metadata (newest_first (take k x)) ≡ metadata (newest_first (take k y))
 
 pub record StepAlike (who : Who) (s : Option Step) (x y : Answer) : Type 0 where
   pub place : place_in s x.place ≡ place_in s y.place
@@ -203,9 +203,9 @@ pub step_alike : (scene : Scene) (a b : Run) (p : Program) (meet : Meet scene a 
     (who : Who) (s : Option Step) (x y : Answer)
     → Suits scene a p ka s x → Suits scene b p kb s y → length scene.rules ≤ ka
     → length scene.rules ≤ kb
-    → ((i : ℕ) → i < length scene.stations → map (pr scene) (event_in i who s x)
+    → ((i : ℕ) → i < length scene.script_files → map (pr scene) (event_in i who s x)
     ≡ map (pr scene) (event_in i who s y))
-    → ((i : ℕ) → i < length scene.stations → list_all no_birth (event_in i who s x) ≡ true)
+    → ((i : ℕ) → i < length scene.script_files → list_all no_birth (event_in i who s x) ≡ true)
     → StepAlike who s x y
 step_alike scene a b p meet ka kb who None x y hx hy la lb same nb = absurd hx
 step_alike scene a b p meet ka kb who (Some Nothing) x y hx hy la lb same nb =
@@ -253,7 +253,7 @@ step_alike scene a b p meet ka kb who (Some (Does inode d)) x y hx hy la lb same
     }
 step_alike scene a b p meet ka kb who (Some (Checks inode file f mask)) x y hx hy la lb same nb =
     let yes = same_number inode in
-    let below = get_below scene.stations inode hx.station hx.at in
+    let below = get_below scene.script_files inode hx.script_file hx.at in
     let e : map (pr scene) ((x.place, event who (deed.Check file f x.action x.rules) x.told) ∷ [])
     ≡ map (pr scene) ((y.place, event who (deed.Check file f y.action y.rules) y.told) ∷ []) =
     rw yes at (same inode below) in
@@ -267,14 +267,15 @@ step_alike scene a b p meet ka kb who (Some (Checks inode file f mask)) x y hx h
           ∙ sym (all_rules scene b kb y.rules (sym meet.added ∙ meet.few g) lb hy.known_rules
           hy.final)
     ] in
-    let station : hx.station ≡ hy.station = some_same hx.station hy.station (sym hx.at ∙ hy.at) in
-    let metas : metadata (past (take x.place hx.journal))
-    ≡ metadata (past (take y.place hy.journal)) =
+    let script_file : hx.script_file ≡ hy.script_file =
+    some_same hx.script_file hy.script_file (sym hx.at ∙ hy.at) in
+    let metas : metadata (newest_first (take x.place hx.journal))
+    ≡ metadata (newest_first (take y.place hy.journal)) =
     meet.meta inode x.place hx.journal hy.journal hx.journal_at hy.journal_at
-    ∙ ap (λ k. metadata (past (take k hy.journal))) place in
+    ∙ ap (λ k. metadata (newest_first (take k hy.journal))) place in
     let action : x.action ≡ y.action =
     hx.action ∙ (λ i. decided (take (rules i) (rules_with scene (meet.added i))) p.cred
-    (station i).place (metas i) f mask) ∙ sym hy.action in
+    (script_file i).place (metas i) f mask) ∙ sym hy.action in
     record {
       place = place;
       told = tolds;

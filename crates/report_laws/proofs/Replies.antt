@@ -406,7 +406,7 @@ thought_replies mode p (a ∷ h) k =
 -- the outcome of a step's answer is that of its event
 answer_reply : (scene : Scene) (run : Run) (p : Program) (known : ℕ) (who : Who)
     (o : Option Step) (a : Answer) → Suits scene run p known o a
-    → ((i : ℕ) → i < length scene.stations
+    → ((i : ℕ) → i < length scene.script_files
     → AllByRecursion (λ (y : ℕ × Event). IsToldReply y.1.told) (event_in i who o a))
     → IsToldReply a.told
 answer_reply scene run p known who None a h events = absurd h
@@ -416,7 +416,7 @@ answer_reply scene run p known who (Some (Does inode d)) a h events =
     (rw (same_number inode) at (events inode h.0)).0
 answer_reply scene run p known who (Some (Checks inode file func mask)) a h events =
     (rw (same_number inode) at
-    (events inode (get_below scene.stations inode h.station h.at))).0
+    (events inode (get_below scene.script_files inode h.script_file h.at))).0
 answer_reply scene run p known who (Some (Signals d)) a h events =
     subst (λ (x : Answer). IsToldReply x.told) (sym h) tt
 answer_reply scene run p known who (Some (Appends rule)) a h events =
@@ -424,7 +424,7 @@ answer_reply scene run p known who (Some (Appends rule)) a h events =
 
 answers_replies : (scene : Scene) (run : Run) (n : ℕ) (p : Program) (h : List Answer)
     → AreSuited scene run p h
-    → ((i : ℕ) → i < length scene.stations
+    → ((i : ℕ) → i < length scene.script_files
     → AllByRecursion (λ (y : ℕ × Event). IsToldReply y.1.told) (own (mode_of scene) n p i h))
     → AllByRecursion (λ (a : Answer). IsToldReply a.told) h
 answers_replies scene run n p [] suited events = tt
@@ -442,7 +442,7 @@ answers_replies scene run n p (a ∷ h) suited events =
 -- the replies of a served task
 pub task_replies : (scene : Scene) (run : Run) (n : ℕ) (p : Program) (h : List Answer)
     → AreSuited scene run p h
-    → ((i : ℕ) → i < length scene.stations
+    → ((i : ℕ) → i < length scene.script_files
     → AllByRecursion (λ (y : ℕ × Event). IsToldReply y.1.told) (own (mode_of scene) n p i h))
     → AllByRecursion IsReply (thought (mode_of scene) p h).replies
 task_replies scene run n p h suited events =

@@ -12,11 +12,11 @@ use Rattle.inode_events.specs.Inode.{Inode}
 use Rattle.inode_events.specs.Legal.{EachFollows, Legal}
 use Rattle.inode_events.specs.Listing.{IsListed, Listed, StandsIn, adds}
 use Rattle.inode_events.specs.Merged.{IsMerged, Journal, Named, named, places_added, times_added}
-use Rattle.inode_events.specs.Past.{past}
+use Rattle.inode_events.specs.NewestFirst.{newest_first}
 use Rattle.inode_events.specs.declared.told.Event.{Event}
 use Rattle.run_model.specs.History.{Thought}
 use Rattle.run_model.specs.Served.{Run}
-use Rattle.run_model.specs.Scene.{Program, Scene, Station, inode_of}
+use Rattle.run_model.specs.Scene.{Program, Scene, ScriptFile, inode_of}
 use Rattle.run_model.specs.Shown.{IsShown, journals_of}
 use Rattle.call_steps.specs.declared.ending.Ending.{Ending}
 use Rattle.report_text.specs.Printed.{IsOneScript, IsTold, printed}
@@ -69,7 +69,7 @@ same_by_place (x ∷ xs) (y ∷ ys) n h =
 -- ---- the ended run, from which a report is made
 
 -- the journals of the ended run are those of the run, as printed
-shown_journals : (scene : Scene) (ss : List Station) (js : List (List Event)) → length js
+shown_journals : (scene : Scene) (ss : List ScriptFile) (js : List (List Event)) → length js
     ≡ length ss
     → map (λ (i : EndedInode). map (printed scene.settings.template (grows scene)) i.journal)
     (inodes_ended scene ss js) ≡ map (map (printed scene.settings.template (grows scene))) js
@@ -80,9 +80,9 @@ shown_journals scene (s ∷ ss) (j ∷ js) n =
     ap (λ l. map (printed scene.settings.template (grows scene)) j ∷ l)
     (shown_journals scene ss js (omega (arith, n)))
 
--- the ended run has an inode for each station
-length_inodes : (scene : Scene) (ss : List Station) (js : List (List Event)) → length js ≡ length ss
-    → length (inodes_ended scene ss js) ≡ length ss
+-- the ended run has an inode for each file
+length_inodes : (scene : Scene) (ss : List ScriptFile) (js : List (List Event))
+    → length js ≡ length ss → length (inodes_ended scene ss js) ≡ length ss
 length_inodes scene [] js n = refl
 length_inodes scene (s ∷ ss) [] n = absurd (omega (arith, n))
 length_inodes scene (s ∷ ss) (j ∷ js) n =
@@ -178,20 +178,21 @@ module _ (scene : Scene) (ending : Ending) (a b : Run) (sa : IsShown scene endin
     (told : IsTold (ended_of scene a) (ended_of scene b)) where
   shown : map (map (printed scene.settings.template (grows scene))) a.journals
       ≡ map (map (printed scene.settings.template (grows scene))) b.journals
-  shown = sym (shown_journals scene scene.stations a.journals sa.served.journals) ∙ told.events
-      ∙ shown_journals scene scene.stations b.journals sb.served.journals
+  shown = sym (shown_journals scene scene.script_files a.journals sa.served.journals) ∙ told.events
+      ∙ shown_journals scene scene.script_files b.journals sb.served.journals
 
   shows : Shows scene a b
   shows i below = get_both (map (printed scene.settings.template (grows scene))) a.journals
       b.journals i shown (omega (arith, below, sa.served.journals))
 
-  each_at : (i : ℕ) (s : Station) (x y : List Event) → slice_get scene.stations i ≡ Some s
+  each_at : (i : ℕ) (s : ScriptFile) (x y : List Event) → slice_get scene.script_files i ≡ Some s
       → slice_get a.journals i ≡ Some x → slice_get b.journals i ≡ Some y
-      → EachFollows (inode_of scene s) (past x) × EachFollows (inode_of scene s) (past y)
+      → EachFollows (inode_of scene s) (newest_first x)
+      × EachFollows (inode_of scene s) (newest_first y)
   each_at i s x y es ex ey = (
-    (journal_has (λ (j : Journal). Legal j.inode j.events) scene scene.stations a.journals i s x
+    (journal_has (λ (j : Journal). Legal j.inode j.events) scene scene.script_files a.journals i s x
         sa.legal es ex).1,
-    (journal_has (λ (j : Journal). Legal j.inode j.events) scene scene.stations b.journals i s y
+    (journal_has (λ (j : Journal). Legal j.inode j.events) scene scene.script_files b.journals i s y
         sb.legal es ey).1,
   )
 
@@ -210,9 +211,9 @@ module _ (scene : Scene) (ending : Ending) (a b : Run) (sa : IsShown scene endin
     added = told.rules;
     few = no_rules scene a sa.served;
     meta = λ i k x y ex ey.
-        let below : i < length scene.stations =
+        let below : i < length scene.script_files =
         omega (arith, get_below a.journals i x ex, sa.served.journals) in
-        let s = get_some scene.stations i below in
+        let s = get_some scene.script_files i below in
         let each = each_at i s.0 x y s.1 ex ey in
         same_meta scene (inode_of scene s.0) k x y each.0 each.1 (same_shown i x y ex ey);
   }
@@ -220,9 +221,9 @@ module _ (scene : Scene) (ending : Ending) (a b : Run) (sa : IsShown scene endin
   journal_once : (i : ℕ) (x y : List Event) → slice_get a.journals i ≡ Some x
       → slice_get b.journals i ≡ Some y → x ≡ y
   journal_once i x y ex ey =
-      let below : i < length scene.stations =
+      let below : i < length scene.script_files =
       omega (arith, get_below a.journals i x ex, sa.served.journals) in
-      let s = get_some scene.stations i below in
+      let s = get_some scene.script_files i below in
       let each = each_at i s.0 x y s.1 ex ey in
       let callers = same_callers scene x y (same_shown i x y ex ey) in
       let few = All-at (λ (j : List Event). All (λ (e : Event). caller_of e ≤ length scene.programs)
@@ -235,8 +236,8 @@ module _ (scene : Scene) (ending : Ending) (a b : Run) (sa : IsShown scene endin
       task_alike scene a b n p.0 ta.0 tb.0 meet shows (sa.served.tasks n p.0 ta.0 p.1 ta.1)
       (sb.served.tasks n p.0 tb.0 p.1 tb.1) i x y below ex ey) in
       past_once x y
-      (same_past (inode_of scene s.0) (past x) (past y) each.0 each.1 (map_past alike x
-      ∙ ap past events ∙ sym (map_past alike y)))
+      (same_past (inode_of scene s.0) (newest_first x) (newest_first y) each.0 each.1
+      (map_past alike x ∙ ap newest_first events ∙ sym (map_past alike y)))
 
   same_lengths : length a.journals ≡ length b.journals
   same_lengths = sa.served.journals ∙ sym sb.served.journals
@@ -250,9 +251,9 @@ module _ (scene : Scene) (ending : Ending) (a b : Run) (sa : IsShown scene endin
   pub run_once : IsSameRun a b
   run_once = record {
     journals = journals_once;
-    list = list_same scene.boot (journals_of scene scene.stations a.journals) a.list b.list
+    list = list_same scene.boot (journals_of scene scene.script_files a.journals) a.list b.list
         sa.merged
-        (subst (λ js. IsMerged scene.boot b.list (journals_of scene scene.stations js))
+        (subst (λ js. IsMerged scene.boot b.list (journals_of scene scene.script_files js))
         (sym journals_once) sb.merged)
         told.count;
     added = told.rules;
@@ -267,8 +268,8 @@ report_determines scene ending a b names sa sb e =
       template = refl;
       grows = refl;
       base = refl;
-      inodes = length_inodes scene scene.stations a.journals sa.served.journals
-          ∙ sym (length_inodes scene scene.stations b.journals sb.served.journals);
+      inodes = length_inodes scene scene.script_files a.journals sa.served.journals
+          ∙ sym (length_inodes scene scene.script_files b.journals sb.served.journals);
       tasks = length_tasks scene.programs a.thoughts sa.served.thoughts
           ∙ sym (length_tasks scene.programs b.thoughts sb.served.thoughts);
       none_of_a = no_rules scene a sa.served;

@@ -6,7 +6,7 @@ use Rattle.call_steps.specs.declared.call.Call.TheVariants as call
 use Rattle.call_steps.specs.declared.ending.Ending.{Ending}
 use Rattle.call_steps.specs.policy.RuleValue.{IsRule}
 use Rattle.run_model.specs.EndedValue.{ended_of}
-use Rattle.run_model.specs.Scene.{Program, Scene, Station}
+use Rattle.run_model.specs.Scene.{Program, Scene, ScriptFile}
 use Rattle.run_model.specs.Served.{Run}
 use Rattle.run_model.specs.Shown.{IsShown}
 use Rattle.shown_laws.specs.Places.{HasForms}
@@ -32,8 +32,8 @@ IsNamedCall _ = Unit {0}
 -- the names and rules of a scene are some that a line can show, as those of each script are
 pub record HasNames (scene : Scene) : Type 0 where
   pub forms : HasForms scene
-  pub attrs : AllByRecursion (λ (s : Station). AllByRecursion (λ (p : Pair). IsClean p.0)
-      s.birth.attrs) scene.stations
+  pub attrs : AllByRecursion (λ (s : ScriptFile). AllByRecursion (λ (p : Pair). IsClean p.0)
+      s.birth.attrs) scene.script_files
   pub calls : AllByRecursion (λ (p : Program). AllByRecursion IsNamedCall p.calls) scene.programs
 
 -- two runs shown by one script with equal reports are the same run

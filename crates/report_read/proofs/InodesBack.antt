@@ -9,7 +9,7 @@ use Rattle.report_text.specs.Words.{Line, event_lines}
 use Rattle.report_text.specs.model.events.EndedInode.{EndedInodeValue as EndedInode}
 use Rattle.report_text.specs.model.events.Inode.{Inode}
 use Rattle.report_text.specs.model.events.Legal.{EachFollows, Legal}
-use Rattle.report_text.specs.model.events.Past.{past}
+use Rattle.report_text.specs.model.events.NewestFirst.{newest_first}
 use Rattle.report_text.specs.model.events.declared.told.Event.{Event as ModelEvent}
 use Rattle.report_text.specs.model.events.hashes.Algo.{algo_name, algo_size}
 use Rattle.report_text.specs.model.events.hashes.declared.algo.Algo.{Algo}
@@ -233,9 +233,9 @@ inode_value t g n i begin = record {
   events = read_events t g (events_at begin n i) i.journal;
 }
 
-follows_of : (inode : Inode) (es : List ModelEvent) → Legal inode (past es)
+follows_of : (inode : Inode) (es : List ModelEvent) → Legal inode (newest_first es)
     → EachFollows inode (reverse es)
-unfolding past
+unfolding newest_first
 follows_of inode es h = h.1
 
 inode_back : (t : Template) (g : Bool) (s : Stage) (begin : ℕ) (d : Draft) (n : ℕ)

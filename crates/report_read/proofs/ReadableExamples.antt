@@ -5,7 +5,7 @@ use Rattle.report_text.specs.Ranges.{IsClean}
 use Rattle.report_text.specs.model.EndedValue.{EndedValue as Ended}
 use Rattle.report_text.specs.model.events.Inode.{Inode, nobody}
 use Rattle.report_text.specs.model.events.Legal.{Legal}
-use Rattle.report_text.specs.model.events.Past.{past}
+use Rattle.report_text.specs.model.events.NewestFirst.{newest_first}
 use Rattle.report_text.specs.model.events.declared.deed.Deed.TheVariants as deed
 use Rattle.report_text.specs.model.events.declared.deed.How.TheVariants as how
 use Rattle.report_text.specs.model.events.declared.told.Event.{Event}
@@ -42,8 +42,8 @@ run inode entry banks = record {
   grows = false;
 }
 
-legal : (inode : Inode) → inode.birth.present ≡ true → Legal inode (past (journal inode))
-unfolding past
+legal : (inode : Inode) → inode.birth.present ≡ true → Legal inode (newest_first (journal inode))
+unfolding newest_first
 legal inode here = (tt, ((tt, tt, rw here refl), ((refl, refl, refl), tt)))
 
 few : (b : Bool) → 0 + cond b 1 0 < 2 ^ 32

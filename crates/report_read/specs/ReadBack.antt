@@ -9,7 +9,7 @@ use Rattle.report_text.specs.model.EndedValue.{EndedTaskValue as EndedTask, Ende
 use Rattle.report_text.specs.model.events.EndedInode.{EndedInodeValue as EndedInode}
 use Rattle.report_text.specs.model.events.Inode.{Inode}
 use Rattle.report_text.specs.model.events.Legal.{Follows, Legal}
-use Rattle.report_text.specs.model.events.Past.{past}
+use Rattle.report_text.specs.model.events.NewestFirst.{newest_first}
 use Rattle.report_text.specs.model.events.declared.deed.Change.{Change}
 use Rattle.report_text.specs.model.events.declared.deed.Change.TheVariants as change
 use Rattle.report_text.specs.model.events.declared.deed.Deed.{Deed}
@@ -170,7 +170,7 @@ IsShownAttr pair = (is_filled pair.0 ≡ true) × IsBytes pair.1
 -- name entries of a list of this size
 pub record IsShownInode (size : ℕ) (i : EndedInode) : Type 0 where
   pub inode : Inode
-  pub legal : Legal inode (past i.journal)
+  pub legal : Legal inode (newest_first i.journal)
   pub small : AllByRecursion IsSmall i.journal
   pub entries : AllByRecursion (λ (e : ModelEvent). NamesEntry size (short e)) i.journal
   pub few_events : length i.journal < 2 ^ 32

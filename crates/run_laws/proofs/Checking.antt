@@ -6,7 +6,7 @@ use mathlib.Core.List.{IsPrefix}
 use Rattle.grow_list.proofs.Prefixes.{prefix_length}
 use Rattle.policy_rules.specs.RuleValue.{RuleValue}
 use Rattle.policy_rules.specs.declared.rule.Func.{Func}
-use Rattle.inode_events.specs.Past.{past}
+use Rattle.inode_events.specs.NewestFirst.{newest_first}
 use Rattle.inode_events.specs.State.{metadata}
 use Rattle.inode_events.specs.declared.told.Event.{Event}
 use Rattle.run_model.specs.steps.Mind.{Step}
@@ -53,7 +53,7 @@ decided_more scene old new p known a i func mask m d =
     let within : a.place ≤ length d.journal = d.within in
     let final : a.rules ≤ length (rules_with scene old.added) = d.final in
     record {
-      station = d.station;
+      script_file = d.script_file;
       journal = long.longer;
       at = d.at;
       journal_at = long.there;
@@ -61,13 +61,13 @@ decided_more scene old new p known a i func mask m d =
       known_rules = d.known_rules;
       final = omega arith;
       action = d.action
-          ∙ ap (λ (l : List RuleValue). decided l p.cred d.station.place
-          (metadata (past (take a.place d.journal))) func mask)
+          ∙ ap (λ (l : List RuleValue). decided l p.cred d.script_file.place
+          (metadata (newest_first (take a.place d.journal))) func mask)
           (sym (take_prefix a.rules (rules_with scene old.added)
           (rules_with scene new.added) rules d.final))
           ∙ ap (λ (l : List Event). decided (take a.rules
-          (rules_with scene new.added)) p.cred d.station.place (metadata (past l)) func mask)
-          (sym (take_prefix a.place d.journal long.longer long.before d.within));
+          (rules_with scene new.added)) p.cred d.script_file.place (metadata (newest_first l))
+          func mask) (sym (take_prefix a.place d.journal long.longer long.before d.within));
     }
 
 suits_more : (scene : Scene) (old new : Seen) (p : Program) (known : ℕ) (o : Option Step)
@@ -157,7 +157,7 @@ check_decided scene s p known a i func mask k x =
     take_prefix a.place x.before x.journal.longer x.journal.before (omega arith)
     ∙ take_all a.place x.before (omega arith) in
     record {
-      station = x.station;
+      script_file = x.script_file;
       journal = x.journal.longer;
       at = x.at;
       journal_at = x.journal.there;
@@ -165,11 +165,11 @@ check_decided scene s p known a i func mask k x =
       known_rules = omega arith;
       final = omega arith;
       action = x.action
-          ∙ ap (λ (l : List RuleValue). decided l p.cred x.station.place
-          (metadata (past x.before)) func mask) (sym whole)
+          ∙ ap (λ (l : List RuleValue). decided l p.cred x.script_file.place
+          (metadata (newest_first x.before)) func mask) (sym whole)
           ∙ ap (λ (l : List Event). decided (take a.rules
-          (rules_with scene s.added)) p.cred x.station.place (metadata (past l)) func mask)
-          (sym start);
+          (rules_with scene s.added)) p.cred x.script_file.place (metadata (newest_first l))
+          func mask) (sym start);
     }
 
 pub law_fits_by_check : FitsByCheck
@@ -188,7 +188,7 @@ suits_run scene run p known (Some Nothing) a s = s
 suits_run scene run p known (Some (Does i d)) a s = s
 suits_run scene run p known (Some (Checks i file func mask)) a s =
     record {
-      station = s.station;
+      script_file = s.script_file;
       journal = s.journal;
       at = s.at;
       journal_at = s.journal_at;

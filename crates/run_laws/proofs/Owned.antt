@@ -15,7 +15,7 @@ use Rattle.inode_events.specs.Asked.{entered, made, outcome}
 use Rattle.inode_events.specs.Callers.{caller_in, caller_of}
 use Rattle.inode_events.specs.Checks.{no_action}
 use Rattle.inode_events.specs.Inode.{Inode}
-use Rattle.inode_events.specs.Past.{past}
+use Rattle.inode_events.specs.NewestFirst.{newest_first}
 use Rattle.inode_events.specs.Semaphores.{semaphore_says}
 use Rattle.inode_events.specs.State.{metadata}
 use Rattle.inode_events.specs.declared.deed.Deed.{Deed}
@@ -27,11 +27,11 @@ use Rattle.run_model.specs.steps.Mind.{Mind, Step}
 use Rattle.run_model.specs.steps.Mind.{Nothing, Does, Checks, Signals, Appends}
 use Rattle.run_model.specs.steps.declared.call.Call.{Call}
 use Rattle.run_model.specs.History.{Answer, Thought, call_at, event, event_in, own, own_rules, plain_answer, rule_in, step_at, thought, who_at, who_in}
-use Rattle.run_model.specs.Scene.{Program, Scene, Station, decided, inode_of, mode_of, rules_with}
+use Rattle.run_model.specs.Scene.{Program, Scene, ScriptFile, decided, inode_of, mode_of, rules_with}
 use Rattle.run_model.specs.Served.{events_of, rules_of}
-use Rattle.run_model.specs.Turns.{State, go_check, go_does, go_step, journal_at, state_on}
+use Rattle.run_model.specs.Turns.{State, journal_at, state_on, step_check, step_does, step_due}
 use Rattle.run_model.specs.rules.declared.cell.RuleEntry.{RuleEntry}
-use Rattle.run_laws.specs.Histories.{AreSigned, GoLeaves, GoOwns, GoSigns, Owns}
+use Rattle.run_laws.specs.Histories.{AreSigned, Owns, StepLeaves, StepOwns, StepSigns}
 use Rattle.run_laws.specs.Moments.{answers_to, answers_told, check_answers, does_answers}
 
 -- ---- a journal with one more event
@@ -256,68 +256,70 @@ own_told scene n p h j x place action rules (Some t) at q =
 -- ---- a step of the task itself
 
 does_owns : (scene : Scene) (n : ℕ) (p : Program) (s : State) (h : List Answer) (i : ℕ)
-    (o : Option Station) (d : Deed) → slice_get scene.stations i ≡ o
+    (o : Option ScriptFile) (d : Deed) → slice_get scene.script_files i ≡ o
     → step_at p (thought (mode_of scene) p h).mind ≡ Some (Does i d)
-    → length s.journals ≡ length scene.stations → Owns scene n p s h
-    → Owns scene n p (go_does scene n p s (thought (mode_of scene) p h) i o d).state
+    → length s.journals ≡ length scene.script_files → Owns scene n p s h
+    → Owns scene n p (step_does scene n p s (thought (mode_of scene) p h) i o d).state
     (does_answers scene s i o d ++ h)
 does_owns scene n p s h i None d q at even w = w
-does_owns scene n p s h i (Some station) d q at even w =
-    let within : i < length scene.stations = slice_get_within scene.stations i station q in
+does_owns scene n p s h i (Some script_file) d q at even w =
+    let within : i < length scene.script_files =
+    slice_get_within scene.script_files i script_file q in
     let inside : i < length s.journals = omega arith in
     record {
       events = λ j journal g.
-          mine_after n s i (inode_of scene station)
+          mine_after n s i (inode_of scene script_file)
           (who_at n p (thought (mode_of scene) p h).mind) d
-          (outcome (inode_of scene station) s.list d (past (journal_at s i)))
+          (outcome (inode_of scene script_file) s.list d (newest_first (journal_at s i)))
           (λ k. own (mode_of scene) n p k h) inside
           (who_task n p (call_at p (thought (mode_of scene) p h).mind)
           (thought (mode_of scene) p h).mind)
-          (no_birth (inode_of scene station) s.list d (past (journal_at s i))) w.events j journal g
-          ∙ own_does scene n p h i j d (length (journal_at s i))
-          (outcome (inode_of scene station) s.list d (past (journal_at s i))) at;
+          (no_birth (inode_of scene script_file) s.list d (newest_first (journal_at s i))) w.events
+          j journal g ∙ own_does scene n p h i j d (length (journal_at s i))
+          (outcome (inode_of scene script_file) s.list d (newest_first (journal_at s i))) at;
       rules = w.rules ∙ rules_told scene n p h (Does i d) (length (journal_at s i)) no_action 0
-          (outcome (inode_of scene station) s.list d (past (journal_at s i))) at tt;
+          (outcome (inode_of scene script_file) s.list d (newest_first (journal_at s i))) at tt;
     }
 
 check_owns : (scene : Scene) (n : ℕ) (p : Program) (s : State) (h : List Answer) (i file : ℕ)
-    (func : Func) (mask : ℕ) (o : Option Station) → slice_get scene.stations i ≡ o
+    (func : Func) (mask : ℕ) (o : Option ScriptFile) → slice_get scene.script_files i ≡ o
     → step_at p (thought (mode_of scene) p h).mind ≡ Some (Checks i file func mask)
-    → length s.journals ≡ length scene.stations → Owns scene n p s h
-    → Owns scene n p (go_check scene n p s (thought (mode_of scene) p h) i o file func mask).state
+    → length s.journals ≡ length scene.script_files → Owns scene n p s h
+    → Owns scene n p (step_check scene n p s (thought (mode_of scene) p h) i o file func mask).state
     (check_answers scene p s i o file func mask ++ h)
 check_owns scene n p s h i file func mask None q at even w = w
-check_owns scene n p s h i file func mask (Some station) q at even w =
-    let within : i < length scene.stations = slice_get_within scene.stations i station q in
+check_owns scene n p s h i file func mask (Some script_file) q at even w =
+    let within : i < length scene.script_files =
+    slice_get_within scene.script_files i script_file q in
     let inside : i < length s.journals = omega arith in
-    by (decided (rules_with scene s.added) p.cred station.place
-    (metadata (past (journal_at s i))) func mask)
+    by (decided (rules_with scene s.added) p.cred script_file.place
+    (metadata (newest_first (journal_at s i))) func mask)
     (length (rules_with scene s.added)) inside where
       by : (action : Action) (rules : ℕ) → i < length s.journals
-          → Owns scene n p (state_on s i (inode_of scene station)
+          → Owns scene n p (state_on s i (inode_of scene script_file)
           (who_at n p (thought (mode_of scene) p h).mind) (deed.Check file func action rules)
-          (outcome (inode_of scene station) s.list (deed.Check file func action rules)
-          (past (journal_at s i))))
+          (outcome (inode_of scene script_file) s.list (deed.Check file func action rules)
+          (newest_first (journal_at s i))))
           (answers_told (length (journal_at s i)) action rules
-          (outcome (inode_of scene station) s.list (deed.Check file func action rules)
-          (past (journal_at s i))) ++ h)
+          (outcome (inode_of scene script_file) s.list (deed.Check file func action rules)
+          (newest_first (journal_at s i))) ++ h)
       by action rules inside = record {
         events = λ j journal g.
-            mine_after n s i (inode_of scene station)
+            mine_after n s i (inode_of scene script_file)
             (who_at n p (thought (mode_of scene) p h).mind) (deed.Check file func action rules)
-            (outcome (inode_of scene station) s.list (deed.Check file func action rules)
-            (past (journal_at s i)))
+            (outcome (inode_of scene script_file) s.list (deed.Check file func action rules)
+            (newest_first (journal_at s i)))
             (λ k. own (mode_of scene) n p k h) inside
             (who_task n p (call_at p (thought (mode_of scene) p h).mind)
             (thought (mode_of scene) p h).mind)
             tt w.events j journal g
             ∙ own_checks scene n p h i j file func mask (length (journal_at s i)) action rules
-            (outcome (inode_of scene station) s.list (deed.Check file func action rules)
-            (past (journal_at s i))) at;
+            (outcome (inode_of scene script_file) s.list (deed.Check file func action rules)
+            (newest_first (journal_at s i))) at;
         rules = w.rules ∙ rules_told scene n p h (Checks i file func mask)
             (length (journal_at s i)) action rules
-            (outcome (inode_of scene station) s.list (deed.Check file func action rules)
-            (past (journal_at s i))) at tt;
+            (outcome (inode_of scene script_file) s.list (deed.Check file func action rules)
+            (newest_first (journal_at s i))) at tt;
       }
 
 task_of : RuleEntry → ℕ
@@ -342,8 +344,8 @@ rule_other n added r ne =
 
 step_owns : (scene : Scene) (n : ℕ) (p : Program) (s : State) (h : List Answer) (o : Option Step)
     → step_at p (thought (mode_of scene) p h).mind ≡ o
-    → length s.journals ≡ length scene.stations → Owns scene n p s h
-    → Owns scene n p (go_step scene n p s (thought (mode_of scene) p h) o).state
+    → length s.journals ≡ length scene.script_files → Owns scene n p s h
+    → Owns scene n p (step_due scene n p s (thought (mode_of scene) p h) o).state
     (answers_to scene p s o ++ h)
 step_owns scene n p s h None at even w = w
 step_owns scene n p s h (Some Nothing) at even w = record {
@@ -352,15 +354,15 @@ step_owns scene n p s h (Some Nothing) at even w = record {
   rules = w.rules ∙ rules_quiet scene n p h Nothing (plain_answer 0 told.Nothing) at tt;
 }
 step_owns scene n p s h (Some (Does i d)) at even w =
-    does_owns scene n p s h i (slice_get scene.stations i) d refl at even w
+    does_owns scene n p s h i (slice_get scene.script_files i) d refl at even w
 step_owns scene n p s h (Some (Checks i file func mask)) at even w =
-    check_owns scene n p s h i file func mask (slice_get scene.stations i) refl at even w
+    check_owns scene n p s h i file func mask (slice_get scene.script_files i) refl at even w
 step_owns scene n p s h (Some (Signals d)) at even w = record {
   events = λ j journal g. w.events j journal g
       ∙ own_told scene n p h j (Signals d) (length s.signals) no_action 0
-      (semaphore_says (past s.signals) d) at tt;
+      (semaphore_says (newest_first s.signals) d) at tt;
   rules = w.rules ∙ rules_told scene n p h (Signals d) (length s.signals) no_action 0
-      (semaphore_says (past s.signals) d) at tt;
+      (semaphore_says (newest_first s.signals) d) at tt;
 }
 step_owns scene n p s h (Some (Appends rule)) at even w = record {
   events = λ j journal g. w.events j journal g
@@ -383,8 +385,8 @@ step_owns scene n p s h (Some (Appends rule)) at even w = record {
       (plain_answer (length s.added) told.Done)) (sym at);
 }
 
-pub law_go_owns : GoOwns
-law_go_owns scene n p s h even w =
+pub law_step_owns : StepOwns
+law_step_owns scene n p s h even w =
     step_owns scene n p s h (step_at p (thought (mode_of scene) p h).mind) refl even w
 
 -- ---- a step of another task
@@ -393,47 +395,49 @@ event_leaves : (scene : Scene) (n k : ℕ) (p q : Program) (s : State) (t : Thou
     (h : List Answer) (i : ℕ) (inode : Inode) (d : Deed) → i < length s.journals → k ≢ n
     → Owns scene k q s h
     → Owns scene k q (state_on s i inode (who_at n p t.mind) d
-    (outcome inode s.list d (past (journal_at s i)))) h
+    (outcome inode s.list d (newest_first (journal_at s i)))) h
 event_leaves scene n k p q s t h i inode d l ne w = record {
   events = others_after n k s i inode (who_at n p t.mind) d
-      (outcome inode s.list d (past (journal_at s i))) (λ j. own (mode_of scene) k q j h) l
+      (outcome inode s.list d (newest_first (journal_at s i))) (λ j. own (mode_of scene) k q j h) l
       (who_task n p (call_at p t.mind) t.mind) ne
-      (no_birth inode s.list d (past (journal_at s i))) w.events;
+      (no_birth inode s.list d (newest_first (journal_at s i))) w.events;
   rules = w.rules;
 }
 
 does_leaves : (scene : Scene) (n k : ℕ) (p q : Program) (s : State) (t : Thought) (h : List Answer)
-    (i : ℕ) (o : Option Station) (d : Deed) → slice_get scene.stations i ≡ o
-    → length s.journals ≡ length scene.stations → k ≢ n → Owns scene k q s h
-    → Owns scene k q (go_does scene n p s t i o d).state h
+    (i : ℕ) (o : Option ScriptFile) (d : Deed) → slice_get scene.script_files i ≡ o
+    → length s.journals ≡ length scene.script_files → k ≢ n → Owns scene k q s h
+    → Owns scene k q (step_does scene n p s t i o d).state h
 does_leaves scene n k p q s t h i None d e even ne w = w
-does_leaves scene n k p q s t h i (Some station) d e even ne w =
-    let within : i < length scene.stations =
-    slice_get_within scene.stations i station e
-    in event_leaves scene n k p q s t h i (inode_of scene station) d (omega arith) ne w
+does_leaves scene n k p q s t h i (Some script_file) d e even ne w =
+    let within : i < length scene.script_files =
+    slice_get_within scene.script_files i script_file e
+    in event_leaves scene n k p q s t h i (inode_of scene script_file) d (omega arith) ne w
 
 check_leaves : (scene : Scene) (n k : ℕ) (p q : Program) (s : State) (t : Thought)
-    (h : List Answer) (i file : ℕ) (func : Func) (mask : ℕ) (o : Option Station)
-    → slice_get scene.stations i ≡ o
-    → length s.journals ≡ length scene.stations → k ≢ n → Owns scene k q s h
-    → Owns scene k q (go_check scene n p s t i o file func mask).state h
+    (h : List Answer) (i file : ℕ) (func : Func) (mask : ℕ) (o : Option ScriptFile)
+    → slice_get scene.script_files i ≡ o
+    → length s.journals ≡ length scene.script_files → k ≢ n → Owns scene k q s h
+    → Owns scene k q (step_check scene n p s t i o file func mask).state h
 check_leaves scene n k p q s t h i file func mask None e even ne w = w
-check_leaves scene n k p q s t h i file func mask (Some station) e even ne w =
-    let within : i < length scene.stations = slice_get_within scene.stations i station e in
-    event_leaves scene n k p q s t h i (inode_of scene station)
-    (deed.Check file func (decided (rules_with scene s.added) p.cred station.place
-    (metadata (past (journal_at s i))) func mask) (length (rules_with scene s.added)))
+check_leaves scene n k p q s t h i file func mask (Some script_file) e even ne w =
+    let within : i < length scene.script_files =
+    slice_get_within scene.script_files i script_file e in
+    event_leaves scene n k p q s t h i (inode_of scene script_file)
+    (deed.Check file func (decided (rules_with scene s.added) p.cred script_file.place
+    (metadata (newest_first (journal_at s i))) func mask) (length (rules_with scene s.added)))
     (omega arith) ne w
 
 step_leaves : (scene : Scene) (n k : ℕ) (p q : Program) (s : State) (t : Thought) (h : List Answer)
-    (o : Option Step) → length s.journals ≡ length scene.stations → k ≢ n → Owns scene k q s h
-    → Owns scene k q (go_step scene n p s t o).state h
+    (o : Option Step) → length s.journals ≡ length scene.script_files → k ≢ n → Owns scene k q s h
+    → Owns scene k q (step_due scene n p s t o).state h
 step_leaves scene n k p q s t h None even ne w = w
 step_leaves scene n k p q s t h (Some Nothing) even ne w = w
 step_leaves scene n k p q s t h (Some (Does i d)) even ne w =
-    does_leaves scene n k p q s t h i (slice_get scene.stations i) d refl even ne w
+    does_leaves scene n k p q s t h i (slice_get scene.script_files i) d refl even ne w
 step_leaves scene n k p q s t h (Some (Checks i file func mask)) even ne w =
-    check_leaves scene n k p q s t h i file func mask (slice_get scene.stations i) refl even ne w
+    check_leaves scene n k p q s t h i file func mask (slice_get scene.script_files i) refl even
+    ne w
 step_leaves scene n k p q s t h (Some (Signals d)) even ne w =
     record { events = w.events; rules = w.rules }
 step_leaves scene n k p q s t h (Some (Appends rule)) even ne w = record {
@@ -442,8 +446,8 @@ step_leaves scene n k p q s t h (Some (Appends rule)) even ne w = record {
       (λ e. ne (e ∙ who_task n p (call_at p t.mind) t.mind)) ∙ w.rules;
 }
 
-pub law_go_leaves : GoLeaves
-law_go_leaves scene n k p q s t h even ne w =
+pub law_step_leaves : StepLeaves
+law_step_leaves scene n k p q s t h even ne w =
     step_leaves scene n k p q s t h (step_at p t.mind) even ne w
 
 -- ---- the owners of events and rules
@@ -477,44 +481,46 @@ who_below : (n count : ℕ) (p : Program) (m : Mind) → n < count → (who_at n
 who_below n count p m l = subst (λ (k : ℕ). k < count) (sym (who_task n p (call_at p m) m)) l
 
 does_signs : (scene : Scene) (n count : ℕ) (p : Program) (s : State) (t : Thought) (i : ℕ)
-    (o : Option Station) (d : Deed) → slice_get scene.stations i ≡ o
-    → length s.journals ≡ length scene.stations → n < count → AreSigned count s
-    → AreSigned count (go_does scene n p s t i o d).state
+    (o : Option ScriptFile) (d : Deed) → slice_get scene.script_files i ≡ o
+    → length s.journals ≡ length scene.script_files → n < count → AreSigned count s
+    → AreSigned count (step_does scene n p s t i o d).state
 does_signs scene n count p s t i None d e even l a = a
-does_signs scene n count p s t i (Some station) d e even l a =
-    let within : i < length scene.stations = slice_get_within scene.stations i station e in
-    event_signs n count s i (inode_of scene station) (who_at n p t.mind) d
-    (outcome (inode_of scene station) s.list d (past (journal_at s i))) (omega arith)
+does_signs scene n count p s t i (Some script_file) d e even l a =
+    let within : i < length scene.script_files =
+    slice_get_within scene.script_files i script_file e in
+    event_signs n count s i (inode_of scene script_file) (who_at n p t.mind) d
+    (outcome (inode_of scene script_file) s.list d (newest_first (journal_at s i))) (omega arith)
     (who_below n count p t.mind l) a
 
 check_signs : (scene : Scene) (n count : ℕ) (p : Program) (s : State) (t : Thought) (i file : ℕ)
-    (func : Func) (mask : ℕ) (o : Option Station) → slice_get scene.stations i ≡ o
-    → length s.journals ≡ length scene.stations → n < count → AreSigned count s
-    → AreSigned count (go_check scene n p s t i o file func mask).state
+    (func : Func) (mask : ℕ) (o : Option ScriptFile) → slice_get scene.script_files i ≡ o
+    → length s.journals ≡ length scene.script_files → n < count → AreSigned count s
+    → AreSigned count (step_check scene n p s t i o file func mask).state
 check_signs scene n count p s t i file func mask None e even l a = a
-check_signs scene n count p s t i file func mask (Some station) e even l a =
-    let within : i < length scene.stations = slice_get_within scene.stations i station e in
+check_signs scene n count p s t i file func mask (Some script_file) e even l a =
+    let within : i < length scene.script_files =
+    slice_get_within scene.script_files i script_file e in
     let inside : i < length s.journals = omega arith in
-    by (deed.Check file func (decided (rules_with scene s.added) p.cred station.place
-    (metadata (past (journal_at s i))) func mask)
+    by (deed.Check file func (decided (rules_with scene s.added) p.cred script_file.place
+    (metadata (newest_first (journal_at s i))) func mask)
     (length (rules_with scene s.added))) inside where
       by : (d : Deed) → i < length s.journals
-          → AreSigned count (state_on s i (inode_of scene station) (who_at n p t.mind) d
-          (outcome (inode_of scene station) s.list d (past (journal_at s i))))
+          → AreSigned count (state_on s i (inode_of scene script_file) (who_at n p t.mind) d
+          (outcome (inode_of scene script_file) s.list d (newest_first (journal_at s i))))
       by d inside =
-          event_signs n count s i (inode_of scene station) (who_at n p t.mind) d
-          (outcome (inode_of scene station) s.list d (past (journal_at s i))) inside
+          event_signs n count s i (inode_of scene script_file) (who_at n p t.mind) d
+          (outcome (inode_of scene script_file) s.list d (newest_first (journal_at s i))) inside
           (who_below n count p t.mind l) a
 
 step_signs : (scene : Scene) (n count : ℕ) (p : Program) (s : State) (t : Thought)
-    (o : Option Step) → length s.journals ≡ length scene.stations → n < count → AreSigned count s
-    → AreSigned count (go_step scene n p s t o).state
+    (o : Option Step) → length s.journals ≡ length scene.script_files → n < count
+    → AreSigned count s → AreSigned count (step_due scene n p s t o).state
 step_signs scene n count p s t None even l a = a
 step_signs scene n count p s t (Some Nothing) even l a = a
 step_signs scene n count p s t (Some (Does i d)) even l a =
-    does_signs scene n count p s t i (slice_get scene.stations i) d refl even l a
+    does_signs scene n count p s t i (slice_get scene.script_files i) d refl even l a
 step_signs scene n count p s t (Some (Checks i file func mask)) even l a =
-    check_signs scene n count p s t i file func mask (slice_get scene.stations i) refl even l a
+    check_signs scene n count p s t i file func mask (slice_get scene.script_files i) refl even l a
 step_signs scene n count p s t (Some (Signals d)) even l a =
     record { events = a.events; rules = a.rules }
 step_signs scene n count p s t (Some (Appends rule)) even l a = record {
@@ -523,6 +529,6 @@ step_signs scene n count p s t (Some (Appends rule)) even l a = record {
       (record { who = who_at n p t.mind; rule = rule }) a.rules (who_below n count p t.mind l);
 }
 
-pub law_go_signs : GoSigns
-law_go_signs scene n count p s t even l a =
+pub law_step_signs : StepSigns
+law_step_signs scene n count p s t even l a =
     step_signs scene n count p s t (step_at p t.mind) even l a

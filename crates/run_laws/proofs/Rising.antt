@@ -17,7 +17,7 @@ use Rattle.inode_events.specs.Inode.{Inode}
 use Rattle.inode_events.specs.Integrity.{Collection, Digests, collecting, in_force, digests_of}
 use Rattle.inode_events.specs.Marks.{must_measure}
 use Rattle.inode_events.specs.Merged.{is_earlier}
-use Rattle.inode_events.specs.Past.{past}
+use Rattle.inode_events.specs.NewestFirst.{newest_first}
 use Rattle.inode_events.specs.Says.{finish_told, place_of, says, take_told, unless_collecting}
 use Rattle.inode_events.specs.Asked.{asked, list_after, measured_if, placed_for, violation_in}
 use Rattle.inode_events.specs.declared.deed.Deed.{Deed}
@@ -244,5 +244,5 @@ ordered_event steps journal place due next d t w e = record {
 -- events newest first
 pub own_is_past : (k i : ℕ) (steps : List Made) (list : List Event)
     → entries_of (k + 1) (map caller_of list) list ≡ own_in i steps
-    → own_past (k + 1) (past list) ≡ reverse (own_in i steps)
+    → own_past (k + 1) (newest_first list) ≡ reverse (own_in i steps)
 own_is_past k i steps list e = own_bridge (k + 1) list ∙ ap reverse e

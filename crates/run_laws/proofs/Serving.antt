@@ -11,41 +11,41 @@ use Rattle.inode_events.specs.declared.deed.Deed.TheVariants as deed
 use Rattle.inode_events.specs.declared.told.Event.{Event}
 use Rattle.inode_events.specs.declared.told.Told.TheVariants as told
 use Rattle.run_model.specs.History.{Thought, event, start}
-use Rattle.run_model.specs.Scene.{Program, Scene, Station}
+use Rattle.run_model.specs.Scene.{Program, Scene, ScriptFile}
 use Rattle.run_model.specs.Rounds.{RoundsTo, all_tasks, rounds}
 use Rattle.run_model.specs.Served.{Served, events_of}
 use Rattle.run_model.specs.steps.declared.ending.Ending.TheVariants as ending
-use Rattle.run_model.specs.Turns.{Moment, State, go, newborn, run_at, start_of, turn, turned, turns_of}
+use Rattle.run_model.specs.Turns.{Moment, State, newborn, run_at, start_of, step_task, turn, turned, turns_of}
 use Rattle.run_model.specs.rules.declared.cell.RuleEntry.{RuleEntry}
 use Rattle.run_laws.specs.Histories.{HasHistories, HasMade, RunsAreServed, TurnsAreServed}
 use Rattle.run_laws.specs.Moments.{history_after, seen_in}
-use Rattle.run_laws.specs.Stations.{StationRules}
+use Rattle.run_laws.specs.ScriptFiles.{ScriptFileRules}
 use Rattle.run_laws.proofs.Checking.{law_fits_are_suited, law_fits_at_first, law_fits_with_more}
-use Rattle.run_laws.proofs.Owned.{law_go_leaves, law_go_owns, law_go_signs, set_parts}
+use Rattle.run_laws.proofs.Owned.{law_step_leaves, law_step_owns, law_step_signs, set_parts}
 use Rattle.run_laws.proofs.Risen.{law_rise_at_first}
-use Rattle.run_laws.proofs.Turning.{get_map, law_go_fits, law_go_grows, law_go_hears, law_go_rises, run_sees}
+use Rattle.run_laws.proofs.Turning.{get_map, law_step_fits, law_step_grows, law_step_hears, law_step_rises, run_sees}
 
 after_own : (scene : Scene) (n : ℕ) (p : Program) (s : State) (t : Thought)
-    → length s.journals ≡ length scene.stations → HasMade scene s n p t
-    → HasMade scene (go scene n p s t).state n p (go scene n p s t).thought
+    → length s.journals ≡ length scene.script_files → HasMade scene s n p t
+    → HasMade scene (step_task scene n p s t).state n p (step_task scene n p s t).thought
 after_own scene n p s t even c =
-    subst (λ (x : Thought). HasMade scene (go scene n p s x).state n p
-    (go scene n p s x).thought) c.stands (record {
+    subst (λ (x : Thought). HasMade scene (step_task scene n p s x).state n p
+    (step_task scene n p s x).thought) c.stands (record {
       history = history_after scene p s c.history;
-      stands = sym (law_go_hears scene n p s c.history);
-      fit = law_go_fits scene n p s c.history even c.fit;
-      owns = law_go_owns scene n p s c.history even c.owns;
+      stands = sym (law_step_hears scene n p s c.history);
+      fit = law_step_fits scene n p s c.history even c.fit;
+      owns = law_step_owns scene n p s c.history even c.owns;
     })
 
 after_other : (scene : Scene) (n k : ℕ) (p q : Program) (s : State) (t u : Thought)
-    → length s.journals ≡ length scene.stations → k ≢ n → HasMade scene s k q u
-    → HasMade scene (go scene n p s t).state k q u
+    → length s.journals ≡ length scene.script_files → k ≢ n → HasMade scene s k q u
+    → HasMade scene (step_task scene n p s t).state k q u
 after_other scene n k p q s t u even ne c = record {
   history = c.history;
   stands = c.stands;
-  fit = law_fits_with_more scene q (seen_in s) (seen_in (go scene n p s t).state) c.history
-      (law_go_grows scene n p s t).0 c.fit;
-  owns = law_go_leaves scene n k p q s t c.history even ne c.owns;
+  fit = law_fits_with_more scene q (seen_in s) (seen_in (step_task scene n p s t).state) c.history
+      (law_step_grows scene n p s t).0 c.fit;
+  owns = law_step_leaves scene n k p q s t c.history even ne c.owns;
 }
 
 turned_kept : (scene : Scene) (m : Moment) (n : ℕ) (o : Option Program) (q : Option Thought)
@@ -54,24 +54,24 @@ turned_kept : (scene : Scene) (m : Moment) (n : ℕ) (o : Option Program) (q : O
 turned_kept scene m n None q e g f = f
 turned_kept scene m n (Some p) None e g f = f
 turned_kept scene m n (Some p) (Some t) e g f = record {
-  even = (law_go_grows scene n p m.state t).1 ∙ f.even;
-  thoughts = length-set m.thoughts n (go scene n p m.state t).thought ∙ f.thoughts;
-  rise = law_go_rises scene n p m.state t f.even f.rise;
-  signed = law_go_signs scene n (length scene.programs) p m.state t f.even
+  even = (law_step_grows scene n p m.state t).1 ∙ f.even;
+  thoughts = length-set m.thoughts n (step_task scene n p m.state t).thought ∙ f.thoughts;
+  rise = law_step_rises scene n p m.state t f.even f.rise;
+  signed = law_step_signs scene n (length scene.programs) p m.state t f.even
       (slice_get_within scene.programs n p e) f.signed;
   tasks = λ k p2 t2 hp ht. at k p2 t2 hp (set_parts m.thoughts n k
-      (go scene n p m.state t).thought t2 ht (slice_get_within m.thoughts n t g));
+      (step_task scene n p m.state t).thought t2 ht (slice_get_within m.thoughts n t g));
 } where
   at : (k : ℕ) (p2 : Program) (t2 : Thought) → slice_get scene.programs k ≡ Some p2
-      → ((k ≡ n) × (t2 ≡ (go scene n p m.state t).thought))
+      → ((k ≡ n) × (t2 ≡ (step_task scene n p m.state t).thought))
       ⊎ ((n ≢ k) × (slice_get m.thoughts k ≡ Some t2))
-      → HasMade scene (go scene n p m.state t).state k p2 t2
+      → HasMade scene (step_task scene n p m.state t).state k p2 t2
   at k p2 t2 hp (inl x) =
       let same : p ≡ p2 = same_Some p p2 (sym e ∙ ap (slice_get scene.programs) (sym x.0) ∙ hp) in
-      subst (λ (j : ℕ). HasMade scene (go scene n p m.state t).state j p2 t2) (sym x.0)
-      (subst (λ (y : Thought). HasMade scene (go scene n p m.state t).state n p2 y) (sym x.1)
-      (subst (λ (y : Program). HasMade scene (go scene n p m.state t).state n y
-      (go scene n p m.state t).thought) same
+      subst (λ (j : ℕ). HasMade scene (step_task scene n p m.state t).state j p2 t2) (sym x.0)
+      (subst (λ (y : Thought). HasMade scene (step_task scene n p m.state t).state n p2 y) (sym x.1)
+      (subst (λ (y : Program). HasMade scene (step_task scene n p m.state t).state n y
+      (step_task scene n p m.state t).thought) same
       (after_own scene n p m.state t f.even (f.tasks n p t e g))))
   at k p2 t2 hp (inr x) =
       after_other scene n k p p2 m.state t t2 f.even (λ y. x.0 (sym y)) (f.tasks k p2 t2 hp x.1)
@@ -85,26 +85,26 @@ turns_kept scene m (n ∷ ns) f =
 
 -- ---- the start
 
-born : Station → Event
-born station = event nobody deed.Birth (told.Image station.birth)
+born : ScriptFile → Event
+born script_file = event nobody deed.Birth (told.Image script_file.birth)
 
-newborn_none : (n : ℕ) (station : Station) → events_of n (newborn station) ≡ []
-newborn_none n station =
-    ap (λ (b : Bool). cond b ((0, event nobody deed.Birth (told.Image station.birth)) ∷ []) [])
+newborn_none : (n : ℕ) (script_file : ScriptFile) → events_of n (newborn script_file) ≡ []
+newborn_none n script_file =
+    ap (λ (b : Bool). cond b ((0, event nobody deed.Birth (told.Image script_file.birth)) ∷ []) [])
     (ne_eqb (n + 1) 0 (λ e. absurd (omega arith)))
 
 start_kept : (scene : Scene) → HasHistories scene (start_of scene)
 start_kept scene = record {
-  even = length-map scene.stations newborn;
+  even = length-map scene.script_files newborn;
   thoughts = length-map scene.programs (λ (p : Program). start);
   rise = λ i journal h.
-      let x = get_map newborn scene.stations i journal h in
-      subst (λ (l : List Event). StationRules (length scene.rules) l []) x.2
+      let x = get_map newborn scene.script_files i journal h in
+      subst (λ (l : List Event). ScriptFileRules (length scene.rules) l []) x.2
       (law_rise_at_first (length scene.rules)
       (event nobody deed.Birth (told.Image x.0.birth)) [] refl);
   signed = record {
     events = λ i journal h.
-        let x = get_map newborn scene.stations i journal h in
+        let x = get_map newborn scene.script_files i journal h in
         subst (All (λ (e : Event). caller_of e ≤ length scene.programs)) x.2
         (All-cons (λ (e : Event). caller_of e ≤ length scene.programs)
         (event nobody deed.Birth (told.Image x.0.birth)) [] (omega arith)
@@ -119,7 +119,7 @@ start_kept scene = record {
         fit = law_fits_at_first scene p (seen_in (start_of scene).state);
         owns = record {
           events = λ i journal h. let y =
-              get_map newborn scene.stations i journal h in sym (ap (events_of n) y.2)
+              get_map newborn scene.script_files i journal h in sym (ap (events_of n) y.2)
               ∙ newborn_none n y.0;
           rules = refl;
         };

@@ -11,7 +11,7 @@ use Rattle.policy_rules.specs.declared.rule.Func.{Func}
 use Rattle.inode_events.specs.Asked.{made, outcome}
 use Rattle.inode_events.specs.Checks.{no_action}
 use Rattle.inode_events.specs.Inode.{Inode, nobody}
-use Rattle.inode_events.specs.Past.{past}
+use Rattle.inode_events.specs.NewestFirst.{newest_first}
 use Rattle.inode_events.specs.Semaphores.{left, semaphore_says}
 use Rattle.inode_events.specs.State.{metadata}
 use Rattle.inode_events.specs.declared.deed.Deed.{Deed}
@@ -27,12 +27,12 @@ use Rattle.run_model.specs.steps.declared.ask.Ask.TheVariants as ask
 use Rattle.run_model.specs.steps.declared.call.Call.{Call}
 use Rattle.run_model.specs.steps.declared.call.Call.TheVariants as call
 use Rattle.run_model.specs.History.{Answer, Thought, call_at, event, plain_answer, start, step_at, step_in, thought, who_at}
-use Rattle.run_model.specs.Scene.{Program, Scene, Station, decided, inode_of, mode_of, rules_with}
-use Rattle.run_model.specs.Turns.{Moment, State, go, go_check, go_does, go_step, hear_told, journal_at, newborn, run_at, start_of, state_on, turn, turned, turns_of}
+use Rattle.run_model.specs.Scene.{Program, Scene, ScriptFile, decided, inode_of, mode_of, rules_with}
+use Rattle.run_model.specs.Turns.{Moment, State, hear_told, journal_at, newborn, run_at, start_of, state_on, step_check, step_does, step_due, step_task, turn, turned, turns_of}
 use Rattle.run_model.specs.rules.declared.cell.RuleEntry.{RuleEntry}
 use Rattle.run_laws.specs.Checks.{ChecksFit, IsPlainStep, JournalsGrow, Longer, SeesMore, seen_of}
-use Rattle.run_laws.specs.Moments.{FitIsSuited, GoFits, GoGrows, GoHears, GoRises, HasChecks, HasSuited, IsFit, StationsRise, TurnFits, TurnsAreFit, answers_to, answers_told, check_answers, does_answers, history_after, seen_in}
-use Rattle.run_laws.specs.Stations.{CountsAll, StationRules}
+use Rattle.run_laws.specs.Moments.{FitIsSuited, HasChecks, HasSuited, IsFit, ScriptFilesRise, StepFits, StepGrows, StepHears, StepRises, TurnFits, TurnsAreFit, answers_to, answers_told, check_answers, does_answers, history_after, seen_in}
+use Rattle.run_laws.specs.ScriptFiles.{CountsAll, ScriptFileRules}
 use Rattle.run_laws.proofs.Checking.{law_fits_are_suited, law_fits_at_first, law_fits_by_check, law_fits_by_step, law_fits_with_more, rules_count}
 use Rattle.run_laws.proofs.Risen.{law_rise_at_first, law_rise_by_look, law_rise_by_outcome}
 
@@ -85,43 +85,44 @@ heard_told scene p h place action rules None = refl
 heard_told scene p h place action rules (Some t) = refl
 
 does_hears : (scene : Scene) (n : ℕ) (p : Program) (s : State) (h : List Answer) (i : ℕ)
-    (o : Option Station) (d : Deed)
-    → (go_does scene n p s (thought (mode_of scene) p h) i o d).thought
+    (o : Option ScriptFile) (d : Deed)
+    → (step_does scene n p s (thought (mode_of scene) p h) i o d).thought
     ≡ thought (mode_of scene) p (does_answers scene s i o d ++ h)
 does_hears scene n p s h i None d = refl
-does_hears scene n p s h i (Some station) d =
+does_hears scene n p s h i (Some script_file) d =
     heard_told scene p h (length (journal_at s i)) no_action 0
-    (outcome (inode_of scene station) s.list d (past (journal_at s i)))
+    (outcome (inode_of scene script_file) s.list d (newest_first (journal_at s i)))
 
 check_hears : (scene : Scene) (n : ℕ) (p : Program) (s : State) (h : List Answer) (i : ℕ)
-    (o : Option Station) (file : ℕ) (func : Func) (mask : ℕ)
-    → (go_check scene n p s (thought (mode_of scene) p h) i o file func mask).thought
+    (o : Option ScriptFile) (file : ℕ) (func : Func) (mask : ℕ)
+    → (step_check scene n p s (thought (mode_of scene) p h) i o file func mask).thought
     ≡ thought (mode_of scene) p (check_answers scene p s i o file func mask ++ h)
 check_hears scene n p s h i None file func mask = refl
-check_hears scene n p s h i (Some station) file func mask =
+check_hears scene n p s h i (Some script_file) file func mask =
     heard_told scene p h (length (journal_at s i))
-    (decided (rules_with scene s.added) p.cred station.place
-    (metadata (past (journal_at s i))) func mask) (length (rules_with scene s.added))
-    (outcome (inode_of scene station) s.list
-    (deed.Check file func (decided (rules_with scene s.added) p.cred station.place
-    (metadata (past (journal_at s i))) func mask) (length (rules_with scene s.added)))
-    (past (journal_at s i)))
+    (decided (rules_with scene s.added) p.cred script_file.place
+    (metadata (newest_first (journal_at s i))) func mask) (length (rules_with scene s.added))
+    (outcome (inode_of scene script_file) s.list
+    (deed.Check file func (decided (rules_with scene s.added) p.cred script_file.place
+    (metadata (newest_first (journal_at s i))) func mask) (length (rules_with scene s.added)))
+    (newest_first (journal_at s i)))
 
 step_hears : (scene : Scene) (n : ℕ) (p : Program) (s : State) (h : List Answer) (o : Option Step)
-    → (go_step scene n p s (thought (mode_of scene) p h) o).thought
+    → (step_due scene n p s (thought (mode_of scene) p h) o).thought
     ≡ thought (mode_of scene) p (answers_to scene p s o ++ h)
 step_hears scene n p s h None = refl
 step_hears scene n p s h (Some Nothing) = refl
 step_hears scene n p s h (Some (Does i d)) =
-    does_hears scene n p s h i (slice_get scene.stations i) d
+    does_hears scene n p s h i (slice_get scene.script_files i) d
 step_hears scene n p s h (Some (Checks i file func mask)) =
-    check_hears scene n p s h i (slice_get scene.stations i) file func mask
+    check_hears scene n p s h i (slice_get scene.script_files i) file func mask
 step_hears scene n p s h (Some (Signals d)) =
-    heard_told scene p h (length s.signals) no_action 0 (semaphore_says (past s.signals) d)
+    heard_told scene p h (length s.signals) no_action 0 (semaphore_says (newest_first s.signals) d)
 step_hears scene n p s h (Some (Appends rule)) = refl
 
-pub law_go_hears : GoHears
-law_go_hears scene n p s h = step_hears scene n p s h (step_at p (thought (mode_of scene) p h).mind)
+pub law_step_hears : StepHears
+law_step_hears scene n p s h =
+    step_hears scene n p s h (step_at p (thought (mode_of scene) p h).mind)
 
 -- ---- the lists after a turn
 
@@ -139,33 +140,33 @@ event_grows s i inode who d o = (
 )
 
 does_grows : (scene : Scene) (n : ℕ) (p : Program) (s : State) (t : Thought) (i : ℕ)
-    (o : Option Station) (d : Deed) → Grows s (go_does scene n p s t i o d).state
+    (o : Option ScriptFile) (d : Deed) → Grows s (step_does scene n p s t i o d).state
 does_grows scene n p s t i None d = same_grows s
-does_grows scene n p s t i (Some station) d =
-    event_grows s i (inode_of scene station) (who_at n p t.mind) d
-    (outcome (inode_of scene station) s.list d (past (journal_at s i)))
+does_grows scene n p s t i (Some script_file) d =
+    event_grows s i (inode_of scene script_file) (who_at n p t.mind) d
+    (outcome (inode_of scene script_file) s.list d (newest_first (journal_at s i)))
 
 check_grows : (scene : Scene) (n : ℕ) (p : Program) (s : State) (t : Thought) (i : ℕ)
-    (o : Option Station) (file : ℕ) (func : Func) (mask : ℕ)
-    → Grows s (go_check scene n p s t i o file func mask).state
+    (o : Option ScriptFile) (file : ℕ) (func : Func) (mask : ℕ)
+    → Grows s (step_check scene n p s t i o file func mask).state
 check_grows scene n p s t i None file func mask = same_grows s
-check_grows scene n p s t i (Some station) file func mask =
-    event_grows s i (inode_of scene station) (who_at n p t.mind)
-    (deed.Check file func (decided (rules_with scene s.added) p.cred station.place
-    (metadata (past (journal_at s i))) func mask) (length (rules_with scene s.added)))
-    (outcome (inode_of scene station) s.list
-    (deed.Check file func (decided (rules_with scene s.added) p.cred station.place
-    (metadata (past (journal_at s i))) func mask) (length (rules_with scene s.added)))
-    (past (journal_at s i)))
+check_grows scene n p s t i (Some script_file) file func mask =
+    event_grows s i (inode_of scene script_file) (who_at n p t.mind)
+    (deed.Check file func (decided (rules_with scene s.added) p.cred script_file.place
+    (metadata (newest_first (journal_at s i))) func mask) (length (rules_with scene s.added)))
+    (outcome (inode_of scene script_file) s.list
+    (deed.Check file func (decided (rules_with scene s.added) p.cred script_file.place
+    (metadata (newest_first (journal_at s i))) func mask) (length (rules_with scene s.added)))
+    (newest_first (journal_at s i)))
 
 step_grows : (scene : Scene) (n : ℕ) (p : Program) (s : State) (t : Thought) (o : Option Step)
-    → Grows s (go_step scene n p s t o).state
+    → Grows s (step_due scene n p s t o).state
 step_grows scene n p s t None = same_grows s
 step_grows scene n p s t (Some Nothing) = same_grows s
 step_grows scene n p s t (Some (Does i d)) =
-    does_grows scene n p s t i (slice_get scene.stations i) d
+    does_grows scene n p s t i (slice_get scene.script_files i) d
 step_grows scene n p s t (Some (Checks i file func mask)) =
-    check_grows scene n p s t i (slice_get scene.stations i) file func mask
+    check_grows scene n p s t i (slice_get scene.script_files i) file func mask
 step_grows scene n p s t (Some (Signals d)) =
     (record { journals = journals_same s.journals; added = prefix_refl s.added }, refl)
 step_grows scene n p s t (Some (Appends rule)) = (
@@ -176,8 +177,8 @@ step_grows scene n p s t (Some (Appends rule)) = (
   refl,
 )
 
-pub law_go_grows : GoGrows
-law_go_grows scene n p s t = step_grows scene n p s t (step_at p t.mind)
+pub law_step_grows : StepGrows
+law_step_grows scene n p s t = step_grows scene n p s t (step_at p t.mind)
 
 -- ---- the task's checks after a turn
 
@@ -186,7 +187,7 @@ FitsAfter scene p h new answers = ChecksFit scene p (seen_in new) (answers ++ h)
 
 does_told : (scene : Scene) (p : Program) (s new : State) (h : List Answer) (i : ℕ) (d : Deed)
     (place : ℕ) (o : Option Told) → Grows s new
-    → step_at p (thought (mode_of scene) p h).mind ≡ Some (Does i d) → i < length scene.stations
+    → step_at p (thought (mode_of scene) p h).mind ≡ Some (Does i d) → i < length scene.script_files
     → ChecksFit scene p (seen_in s) h
     → FitsAfter scene p h new (answers_told place no_action 0 o)
 does_told scene p s new h i d place None g at l f =
@@ -197,60 +198,61 @@ does_told scene p s new h i d place (Some t) g at l f =
     (l, refl))
 
 does_fits : (scene : Scene) (n : ℕ) (p : Program) (s : State) (h : List Answer) (i : ℕ)
-    (o : Option Station) (d : Deed) → slice_get scene.stations i ≡ o
+    (o : Option ScriptFile) (d : Deed) → slice_get scene.script_files i ≡ o
     → step_at p (thought (mode_of scene) p h).mind ≡ Some (Does i d)
     → ChecksFit scene p (seen_in s) h
-    → FitsAfter scene p h (go_does scene n p s (thought (mode_of scene) p h) i o d).state
+    → FitsAfter scene p h (step_does scene n p s (thought (mode_of scene) p h) i o d).state
     (does_answers scene s i o d)
 does_fits scene n p s h i None d q at f = f
-does_fits scene n p s h i (Some station) d q at f =
-    does_told scene p s (go_does scene n p s (thought (mode_of scene) p h) i
-    (Some station) d).state h i d (length (journal_at s i))
-    (outcome (inode_of scene station) s.list d (past (journal_at s i)))
-    (does_grows scene n p s (thought (mode_of scene) p h) i (Some station) d) at
-    (slice_get_within scene.stations i station q) f
+does_fits scene n p s h i (Some script_file) d q at f =
+    does_told scene p s (step_does scene n p s (thought (mode_of scene) p h) i
+    (Some script_file) d).state h i d (length (journal_at s i))
+    (outcome (inode_of scene script_file) s.list d (newest_first (journal_at s i)))
+    (does_grows scene n p s (thought (mode_of scene) p h) i (Some script_file) d) at
+    (slice_get_within scene.script_files i script_file q) f
 
 check_told : (scene : Scene) (p : Program) (s new : State) (h : List Answer) (i file : ℕ)
-    (func : Func) (mask : ℕ) (station : Station) (o : Option Told) → Grows s new
+    (func : Func) (mask : ℕ) (script_file : ScriptFile) (o : Option Told) → Grows s new
     → new.added ≡ s.added → step_at p (thought (mode_of scene) p h).mind
-    ≡ Some (Checks i file func mask) → slice_get scene.stations i ≡ Some station
+    ≡ Some (Checks i file func mask) → slice_get scene.script_files i ≡ Some script_file
     → i < length s.journals
     → ChecksFit scene p (seen_in s) h
     → FitsAfter scene p h new (answers_told (length (journal_at s i))
-    (decided (rules_with scene s.added) p.cred station.place
-    (metadata (past (journal_at s i))) func mask) (length (rules_with scene s.added)) o)
-check_told scene p s new h i file func mask station None g e at q l f =
+    (decided (rules_with scene s.added) p.cred script_file.place
+    (metadata (newest_first (journal_at s i))) func mask) (length (rules_with scene s.added)) o)
+check_told scene p s new h i file func mask script_file None g e at q l f =
     law_fits_with_more scene p (seen_in s) (seen_in new) h g.0 f
-check_told scene p s new h i file func mask station (Some t) g e at q l f =
+check_told scene p s new h i file func mask script_file (Some t) g e at q l f =
     law_fits_by_check scene p (seen_in s) (seen_in new) h _ i file func mask g.0 f at (record {
-      station = station;
+      script_file = script_file;
       before = journal_at s i;
       at = q;
       journal = g.0.journals i (journal_at s i) (slice_get-get_or s.journals i [] l);
       place = refl;
       rules = ap (λ (x : List RuleEntry). length (rules_with scene x)) (sym e);
-      action = ap (λ (x : List RuleEntry). decided (rules_with scene x) p.cred station.place
-          (metadata (past (journal_at s i))) func mask) (sym e);
+      action = ap (λ (x : List RuleEntry). decided (rules_with scene x) p.cred script_file.place
+          (metadata (newest_first (journal_at s i))) func mask) (sym e);
     })
 
 check_fits : (scene : Scene) (n : ℕ) (p : Program) (s : State) (h : List Answer) (i file : ℕ)
-    (func : Func) (mask : ℕ) (o : Option Station) → slice_get scene.stations i ≡ o
+    (func : Func) (mask : ℕ) (o : Option ScriptFile) → slice_get scene.script_files i ≡ o
     → step_at p (thought (mode_of scene) p h).mind ≡ Some (Checks i file func mask)
-    → length s.journals ≡ length scene.stations → ChecksFit scene p (seen_in s) h
-    → FitsAfter scene p h (go_check scene n p s
+    → length s.journals ≡ length scene.script_files → ChecksFit scene p (seen_in s) h
+    → FitsAfter scene p h (step_check scene n p s
     (thought (mode_of scene) p h) i o file func mask).state
     (check_answers scene p s i o file func mask)
 check_fits scene n p s h i file func mask None q at even f = f
-check_fits scene n p s h i file func mask (Some station) q at even f =
-    let within : i < length scene.stations = slice_get_within scene.stations i station q in
-    check_told scene p s (go_check scene n p s (thought (mode_of scene) p h) i
-    (Some station) file func mask).state h i file func mask station
-    (outcome (inode_of scene station) s.list
-    (deed.Check file func (decided (rules_with scene s.added) p.cred station.place
-    (metadata (past (journal_at s i))) func mask) (length (rules_with scene s.added)))
-    (past (journal_at s i)))
+check_fits scene n p s h i file func mask (Some script_file) q at even f =
+    let within : i < length scene.script_files =
+    slice_get_within scene.script_files i script_file q in
+    check_told scene p s (step_check scene n p s (thought (mode_of scene) p h) i
+    (Some script_file) file func mask).state h i file func mask script_file
+    (outcome (inode_of scene script_file) s.list
+    (deed.Check file func (decided (rules_with scene s.added) p.cred script_file.place
+    (metadata (newest_first (journal_at s i))) func mask) (length (rules_with scene s.added)))
+    (newest_first (journal_at s i)))
     (check_grows scene n p s (thought (mode_of scene) p h) i
-    (Some station) file func mask) refl at q (omega arith) f
+    (Some script_file) file func mask) refl at q (omega arith) f
 
 signal_fits : (scene : Scene) (p : Program) (s new : State) (h : List Answer) (d : Deed)
     (place : ℕ) → Grows s new
@@ -281,8 +283,8 @@ signal_fits scene p s new h d place g at f e = by d refl where
 
 step_fits : (scene : Scene) (n : ℕ) (p : Program) (s : State) (h : List Answer) (o : Option Step)
     → step_at p (thought (mode_of scene) p h).mind ≡ o
-    → length s.journals ≡ length scene.stations → ChecksFit scene p (seen_in s) h
-    → FitsAfter scene p h (go_step scene n p s (thought (mode_of scene) p h) o).state
+    → length s.journals ≡ length scene.script_files → ChecksFit scene p (seen_in s) h
+    → FitsAfter scene p h (step_due scene n p s (thought (mode_of scene) p h) o).state
     (answers_to scene p s o)
 step_fits scene n p s h None at even f = f
 step_fits scene n p s h (Some Nothing) at even f =
@@ -291,13 +293,14 @@ step_fits scene n p s h (Some Nothing) at even f =
     (subst (λ (o : Option Step). IsPlainStep scene (seen_in s) o (plain_answer 0 told.Nothing))
     (sym at) refl)
 step_fits scene n p s h (Some (Does i d)) at even f =
-    does_fits scene n p s h i (slice_get scene.stations i) d refl at f
+    does_fits scene n p s h i (slice_get scene.script_files i) d refl at f
 step_fits scene n p s h (Some (Checks i file func mask)) at even f =
-    check_fits scene n p s h i file func mask (slice_get scene.stations i) refl at even f
+    check_fits scene n p s h i file func mask (slice_get scene.script_files i) refl at even f
 step_fits scene n p s h (Some (Signals d)) at even f =
-    signal_fits scene p s (go_step scene n p s (thought (mode_of scene) p h)
+    signal_fits scene p s (step_due scene n p s (thought (mode_of scene) p h)
     (Some (Signals d))).state h d (length s.signals)
-    (step_grows scene n p s (thought (mode_of scene) p h) (Some (Signals d))) at f (past s.signals)
+    (step_grows scene n p s (thought (mode_of scene) p h) (Some (Signals d))) at f
+    (newest_first s.signals)
 step_fits scene n p s h (Some (Appends rule)) at even f =
     let r : RuleEntry =
     record { who = who_at n p (thought (mode_of scene) p h).mind; rule = rule } in
@@ -323,23 +326,23 @@ step_fits scene n p s h (Some (Appends rule)) at even f =
       ),
     ))
 
-pub law_go_fits : GoFits
-law_go_fits scene n p s h even f =
+pub law_step_fits : StepFits
+law_step_fits scene n p s h even f =
     step_fits scene n p s h (step_at p (thought (mode_of scene) p h).mind) refl even f
 
 -- ---- the rules along the journals
 
 event_rises : (scene : Scene) (s : State) (i : ℕ) (inode : Inode) (who : Who) (d : Deed)
     (o : Option Told) → i < length s.journals
-    → CountsAll (length scene.rules + length s.added) d → StationsRise scene s
-    → StationsRise scene (state_on s i inode who d o)
+    → CountsAll (length scene.rules + length s.added) d → ScriptFilesRise scene s
+    → ScriptFilesRise scene (state_on s i inode who d o)
 event_rises scene s i inode who d o l c r k journal h =
     at (set_cases s.journals i k (journal_at s i ++ made who d o) journal h) where
       at : ((k ≡ i) × (journal ≡ journal_at s i ++ made who d o))
           ⊎ (slice_get s.journals k ≡ Some journal)
-          → StationRules (length scene.rules) journal s.added
+          → ScriptFileRules (length scene.rules) journal s.added
       at (inl e) =
-          subst (λ (x : List Event). StationRules (length scene.rules) x s.added) (sym e.1)
+          subst (λ (x : List Event). ScriptFileRules (length scene.rules) x s.added) (sym e.1)
           (law_rise_by_outcome (length scene.rules) (journal_at s i) s.added s.added who d o
           (prefix_refl s.added) (r i (journal_at s i) (slice_get-get_or s.journals i [] l)) c)
       at (inr g) = r k journal g
@@ -388,62 +391,64 @@ no_check p m (Some c) i d h =
     (progress_of p.cred.admin c m).due.ask)
 
 does_rises : (scene : Scene) (n : ℕ) (p : Program) (s : State) (t : Thought) (i : ℕ)
-    (o : Option Station) (d : Deed) → slice_get scene.stations i ≡ o
-    → length s.journals ≡ length scene.stations → ((count : ℕ) → CountsAll count d)
-    → StationsRise scene s → StationsRise scene (go_does scene n p s t i o d).state
+    (o : Option ScriptFile) (d : Deed) → slice_get scene.script_files i ≡ o
+    → length s.journals ≡ length scene.script_files → ((count : ℕ) → CountsAll count d)
+    → ScriptFilesRise scene s → ScriptFilesRise scene (step_does scene n p s t i o d).state
 does_rises scene n p s t i None d q even c r = r
-does_rises scene n p s t i (Some station) d q even c r =
-    let within : i < length scene.stations = slice_get_within scene.stations i station q in
-    event_rises scene s i (inode_of scene station) (who_at n p t.mind) d
-    (outcome (inode_of scene station) s.list d (past (journal_at s i))) (omega arith)
+does_rises scene n p s t i (Some script_file) d q even c r =
+    let within : i < length scene.script_files =
+    slice_get_within scene.script_files i script_file q in
+    event_rises scene s i (inode_of scene script_file) (who_at n p t.mind) d
+    (outcome (inode_of scene script_file) s.list d (newest_first (journal_at s i))) (omega arith)
     (c (length scene.rules + length s.added)) r
 
 check_rises : (scene : Scene) (n : ℕ) (p : Program) (s : State) (t : Thought) (i : ℕ)
-    (o : Option Station) (file : ℕ) (func : Func) (mask : ℕ) → slice_get scene.stations i ≡ o
-    → length s.journals ≡ length scene.stations → StationsRise scene s
-    → StationsRise scene (go_check scene n p s t i o file func mask).state
+    (o : Option ScriptFile) (file : ℕ) (func : Func) (mask : ℕ) → slice_get scene.script_files i ≡ o
+    → length s.journals ≡ length scene.script_files → ScriptFilesRise scene s
+    → ScriptFilesRise scene (step_check scene n p s t i o file func mask).state
 check_rises scene n p s t i None file func mask q even r = r
-check_rises scene n p s t i (Some station) file func mask q even r =
-    let within : i < length scene.stations = slice_get_within scene.stations i station q in
-    event_rises scene s i (inode_of scene station) (who_at n p t.mind)
-    (deed.Check file func (decided (rules_with scene s.added) p.cred station.place
-    (metadata (past (journal_at s i))) func mask) (length (rules_with scene s.added)))
-    (outcome (inode_of scene station) s.list
-    (deed.Check file func (decided (rules_with scene s.added) p.cred station.place
-    (metadata (past (journal_at s i))) func mask) (length (rules_with scene s.added)))
-    (past (journal_at s i)))
+check_rises scene n p s t i (Some script_file) file func mask q even r =
+    let within : i < length scene.script_files =
+    slice_get_within scene.script_files i script_file q in
+    event_rises scene s i (inode_of scene script_file) (who_at n p t.mind)
+    (deed.Check file func (decided (rules_with scene s.added) p.cred script_file.place
+    (metadata (newest_first (journal_at s i))) func mask) (length (rules_with scene s.added)))
+    (outcome (inode_of scene script_file) s.list
+    (deed.Check file func (decided (rules_with scene s.added) p.cred script_file.place
+    (metadata (newest_first (journal_at s i))) func mask) (length (rules_with scene s.added)))
+    (newest_first (journal_at s i)))
     (omega arith) (rules_count scene s.added) r
 
 step_rises : (scene : Scene) (n : ℕ) (p : Program) (s : State) (t : Thought) (o : Option Step)
-    → step_at p t.mind ≡ o → length s.journals ≡ length scene.stations
-    → StationsRise scene s → StationsRise scene (go_step scene n p s t o).state
+    → step_at p t.mind ≡ o → length s.journals ≡ length scene.script_files
+    → ScriptFilesRise scene s → ScriptFilesRise scene (step_due scene n p s t o).state
 step_rises scene n p s t None at even r = r
 step_rises scene n p s t (Some Nothing) at even r = r
 step_rises scene n p s t (Some (Does i d)) at even r =
-    does_rises scene n p s t i (slice_get scene.stations i) d refl even
+    does_rises scene n p s t i (slice_get scene.script_files i) d refl even
     (no_check p t.mind (call_at p t.mind) i d at) r
 step_rises scene n p s t (Some (Checks i file func mask)) at even r =
-    check_rises scene n p s t i (slice_get scene.stations i) file func mask refl even r
+    check_rises scene n p s t i (slice_get scene.script_files i) file func mask refl even r
 step_rises scene n p s t (Some (Signals d)) at even r = r
 step_rises scene n p s t (Some (Appends rule)) at even r = λ k journal h.
     law_rise_by_look (length scene.rules) journal s.added
     (s.added ++ record { who = who_at n p t.mind; rule = rule } ∷ [])
     (prefix_append s.added (record { who = who_at n p t.mind; rule = rule } ∷ [])) (r k journal h)
 
-pub law_go_rises : GoRises
-law_go_rises scene n p s t even r = step_rises scene n p s t (step_at p t.mind) refl even r
+pub law_step_rises : StepRises
+law_step_rises scene n p s t even r = step_rises scene n p s t (step_at p t.mind) refl even r
 
 -- ---- a turn of a moment
 
 after_go : (scene : Scene) (n : ℕ) (p : Program) (s : State) (t : Thought)
-    → length s.journals ≡ length scene.stations → HasChecks scene s p t
-    → HasChecks scene (go scene n p s t).state p (go scene n p s t).thought
+    → length s.journals ≡ length scene.script_files → HasChecks scene s p t
+    → HasChecks scene (step_task scene n p s t).state p (step_task scene n p s t).thought
 after_go scene n p s t even c =
-    subst (λ (x : Thought). HasChecks scene (go scene n p s x).state p
-    (go scene n p s x).thought) c.stands (record {
+    subst (λ (x : Thought). HasChecks scene (step_task scene n p s x).state p
+    (step_task scene n p s x).thought) c.stands (record {
       history = history_after scene p s c.history;
-      stands = sym (law_go_hears scene n p s c.history);
-      fit = law_go_fits scene n p s c.history even c.fit;
+      stands = sym (law_step_hears scene n p s c.history);
+      fit = law_step_fits scene n p s c.history even c.fit;
     })
 
 after_other : (scene : Scene) (s new : State) (p : Program) (t : Thought)
@@ -461,23 +466,24 @@ turned_fits : (scene : Scene) (m : Moment) (n : ℕ) (o : Option Program) (q : O
 turned_fits scene m n None q e g f = f
 turned_fits scene m n (Some p) None e g f = f
 turned_fits scene m n (Some p) (Some t) e g f = record {
-  even = (law_go_grows scene n p m.state t).1 ∙ f.even;
-  rise = law_go_rises scene n p m.state t f.even f.rise;
+  even = (law_step_grows scene n p m.state t).1 ∙ f.even;
+  rise = law_step_rises scene n p m.state t f.even f.rise;
   tasks = λ k p2 t2 hp ht. at k p2 t2 hp (set_cases m.thoughts n k
-      (go scene n p m.state t).thought t2 ht);
+      (step_task scene n p m.state t).thought t2 ht);
 } where
   at : (k : ℕ) (p2 : Program) (t2 : Thought) → slice_get scene.programs k ≡ Some p2
-      → ((k ≡ n) × (t2 ≡ (go scene n p m.state t).thought)) ⊎ (slice_get m.thoughts k ≡ Some t2)
-      → HasChecks scene (go scene n p m.state t).state p2 t2
+      → ((k ≡ n) × (t2 ≡ (step_task scene n p m.state t).thought))
+      ⊎ (slice_get m.thoughts k ≡ Some t2)
+      → HasChecks scene (step_task scene n p m.state t).state p2 t2
   at k p2 t2 hp (inl x) =
       let same : p ≡ p2 = same_Some p p2 (sym e ∙ ap (slice_get scene.programs) (sym x.0) ∙ hp) in
-      subst (λ (y : Thought). HasChecks scene (go scene n p m.state t).state p2 y) (sym x.1)
-      (subst (λ (y : Program). HasChecks scene (go scene n p m.state t).state y
-      (go scene n p m.state t).thought) same
+      subst (λ (y : Thought). HasChecks scene (step_task scene n p m.state t).state p2 y) (sym x.1)
+      (subst (λ (y : Program). HasChecks scene (step_task scene n p m.state t).state y
+      (step_task scene n p m.state t).thought) same
       (after_go scene n p m.state t f.even (f.tasks n p t e g)))
   at k p2 t2 hp (inr x) =
-      after_other scene m.state (go scene n p m.state t).state p2 t2
-      (law_go_grows scene n p m.state t).0 (f.tasks k p2 t2 hp x)
+      after_other scene m.state (step_task scene n p m.state t).state p2 t2
+      (law_step_grows scene n p m.state t).0 (f.tasks k p2 t2 hp x)
 
 pub law_turn_fits : TurnFits
 law_turn_fits scene m n f =
@@ -498,10 +504,10 @@ get_map f (x ∷ xs) (suc i) y h = get_map f xs i y h
 
 start_fits : (scene : Scene) → IsFit scene (start_of scene)
 start_fits scene = record {
-  even = length-map scene.stations newborn;
+  even = length-map scene.script_files newborn;
   rise = λ i journal h.
-      let x = get_map newborn scene.stations i journal h in
-      subst (λ (l : List Event). StationRules (length scene.rules) l []) x.2
+      let x = get_map newborn scene.script_files i journal h in
+      subst (λ (l : List Event). ScriptFileRules (length scene.rules) l []) x.2
       (law_rise_at_first (length scene.rules)
       (event nobody deed.Birth (told.Image x.0.birth)) [] refl);
   tasks = λ n p t hp ht.

@@ -4,14 +4,14 @@ use Rattle.std.specs.List.{AllZip}
 use Rattle.grow_list.specs.Shown.{Passed}
 use mathlib.Core.List.{IsPrefix}
 use Rattle.policy_rules.specs.declared.rule.Func.{Func}
-use Rattle.inode_events.specs.Past.{past}
+use Rattle.inode_events.specs.NewestFirst.{newest_first}
 use Rattle.inode_events.specs.State.{metadata}
 use Rattle.inode_events.specs.declared.told.Event.{Event}
 use Rattle.inode_events.specs.declared.told.Told.TheVariants as told
 use Rattle.run_model.specs.steps.Mind.{Step}
 use Rattle.run_model.specs.steps.Mind.{Nothing, Does, Checks, Signals, Appends}
 use Rattle.run_model.specs.History.{Answer, plain_answer, step_at, thought}
-use Rattle.run_model.specs.Scene.{Program, Scene, Station, decided, mode_of, rules_with}
+use Rattle.run_model.specs.Scene.{Program, Scene, ScriptFile, decided, mode_of, rules_with}
 use Rattle.run_model.specs.Served.{AreSuited, Run, rules_known}
 use Rattle.run_model.specs.rules.declared.cell.RuleEntry.{RuleEntry}
 
@@ -25,15 +25,15 @@ pub record Seen : Type 0 where
 -- the check at this place was decided by the first of the rules seen, as many as its answer says
 pub record IsDecidedIn (scene : Scene) (s : Seen) (p : Program) (known : ℕ) (a : Answer)
     (inode : ℕ) (func : Func) (mask : ℕ) : Type 0 where
-  pub station : Station
+  pub script_file : ScriptFile
   pub journal : List Event
-  pub at : slice_get scene.stations inode ≡ Some station
+  pub at : slice_get scene.script_files inode ≡ Some script_file
   pub journal_at : slice_get s.journals inode ≡ Some journal
   pub within : a.place ≤ length journal
   pub known_rules : known ≤ a.rules
   pub final : a.rules ≤ length (rules_with scene s.added)
-  pub action : a.action ≡ decided (take a.rules (rules_with scene s.added)) p.cred station.place
-      (metadata (past (take a.place journal))) func mask
+  pub action : a.action ≡ decided (take a.rules (rules_with scene s.added)) p.cred script_file.place
+      (metadata (newest_first (take a.place journal))) func mask
 
 -- ---- any step
 
@@ -41,7 +41,7 @@ abbrev pub SuitsIn : Scene → Seen → Program → ℕ → Option Step → Answ
 SuitsIn scene s p known None a = ⊥
 SuitsIn scene s p known (Some Nothing) a = a ≡ plain_answer 0 told.Nothing
 SuitsIn scene s p known (Some (Does inode d)) a =
-    (inode < length scene.stations) × (a ≡ plain_answer a.place a.told)
+    (inode < length scene.script_files) × (a ≡ plain_answer a.place a.told)
 SuitsIn scene s p known (Some (Checks inode file func mask)) a =
     IsDecidedIn scene s p known a inode func mask
 SuitsIn scene s p known (Some (Signals d)) a = a ≡ plain_answer a.place told.Done
@@ -90,7 +90,7 @@ abbrev pub IsPlainStep : Scene → Seen → Option Step → Answer → Type 0
 IsPlainStep scene s None a = ⊥
 IsPlainStep scene s (Some Nothing) a = a ≡ plain_answer 0 told.Nothing
 IsPlainStep scene s (Some (Does inode d)) a =
-    (inode < length scene.stations) × (a ≡ plain_answer a.place a.told)
+    (inode < length scene.script_files) × (a ≡ plain_answer a.place a.told)
 IsPlainStep scene s (Some (Checks inode file func mask)) a = ⊥
 IsPlainStep scene s (Some (Signals d)) a = a ≡ plain_answer a.place told.Done
 IsPlainStep scene s (Some (Appends rule)) a =
@@ -107,14 +107,14 @@ FitsByStep =
 -- journal before the check
 pub record IsCheckStep (scene : Scene) (s : Seen) (p : Program) (a : Answer) (inode : ℕ)
     (func : Func) (mask : ℕ) : Type 0 where
-  pub station : Station
+  pub script_file : ScriptFile
   pub before : List Event
-  pub at : slice_get scene.stations inode ≡ Some station
+  pub at : slice_get scene.script_files inode ≡ Some script_file
   pub journal : Longer s.journals inode before
   pub place : a.place ≡ length before
   pub rules : a.rules ≡ length (rules_with scene s.added)
-  pub action : a.action ≡ decided (rules_with scene s.added) p.cred station.place
-      (metadata (past before)) func mask
+  pub action : a.action ≡ decided (rules_with scene s.added) p.cred script_file.place
+      (metadata (newest_first before)) func mask
 
 abbrev pub FitsByCheck : Type 0
 FitsByCheck =

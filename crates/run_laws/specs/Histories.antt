@@ -6,12 +6,12 @@ use Rattle.run_model.specs.History.{Answer, Thought, own, own_rules, thought}
 use Rattle.run_model.specs.Scene.{Program, Scene, mode_of}
 use Rattle.run_model.specs.Rounds.{IsRunOf}
 use Rattle.run_model.specs.Served.{Run, Served, events_of, rules_of}
-use Rattle.run_model.specs.Turns.{Moment, State, go, run_at, start_of, turns_of}
+use Rattle.run_model.specs.Turns.{Moment, State, run_at, start_of, step_task, turns_of}
 use Rattle.run_model.specs.steps.declared.ending.Ending.{Ending}
 use Rattle.run_model.specs.steps.declared.ending.Ending.TheVariants as ending
 use Rattle.run_model.specs.rules.declared.cell.RuleEntry.{RuleEntry}
 use Rattle.run_laws.specs.Checks.{ChecksFit}
-use Rattle.run_laws.specs.Moments.{StationsRise, history_after, seen_in}
+use Rattle.run_laws.specs.Moments.{ScriptFilesRise, history_after, seen_in}
 
 -- the task's events and rules are those of the history
 pub record Owns (scene : Scene) (n : ℕ) (p : Program) (s : State) (h : List Answer) : Type 0 where
@@ -25,21 +25,21 @@ pub record AreSigned (count : ℕ) (s : State) : Type 0 where
       → All (λ (e : Event). caller_of e ≤ count) journal
   pub rules : All (λ (r : RuleEntry). r.who.task < count) s.added
 
-abbrev pub GoOwns : Type 0
-GoOwns = (scene : Scene) (n : ℕ) (p : Program) (s : State) (h : List Answer)
-    → length s.journals ≡ length scene.stations → Owns scene n p s h
-    → Owns scene n p (go scene n p s (thought (mode_of scene) p h)).state
+abbrev pub StepOwns : Type 0
+StepOwns = (scene : Scene) (n : ℕ) (p : Program) (s : State) (h : List Answer)
+    → length s.journals ≡ length scene.script_files → Owns scene n p s h
+    → Owns scene n p (step_task scene n p s (thought (mode_of scene) p h)).state
     (history_after scene p s h)
 
-abbrev pub GoLeaves : Type 0
-GoLeaves = (scene : Scene) (n k : ℕ) (p q : Program) (s : State) (t : Thought) (h : List Answer)
-    → length s.journals ≡ length scene.stations → k ≢ n → Owns scene k q s h
-    → Owns scene k q (go scene n p s t).state h
+abbrev pub StepLeaves : Type 0
+StepLeaves = (scene : Scene) (n k : ℕ) (p q : Program) (s : State) (t : Thought) (h : List Answer)
+    → length s.journals ≡ length scene.script_files → k ≢ n → Owns scene k q s h
+    → Owns scene k q (step_task scene n p s t).state h
 
-abbrev pub GoSigns : Type 0
-GoSigns = (scene : Scene) (n count : ℕ) (p : Program) (s : State) (t : Thought)
-    → length s.journals ≡ length scene.stations → n < count → AreSigned count s
-    → AreSigned count (go scene n p s t).state
+abbrev pub StepSigns : Type 0
+StepSigns = (scene : Scene) (n count : ℕ) (p : Program) (s : State) (t : Thought)
+    → length s.journals ≡ length scene.script_files → n < count → AreSigned count s
+    → AreSigned count (step_task scene n p s t).state
 
 pub record HasMade (scene : Scene) (s : State) (n : ℕ) (p : Program) (t : Thought) : Type 0 where
   pub history : List Answer
@@ -48,9 +48,9 @@ pub record HasMade (scene : Scene) (s : State) (n : ℕ) (p : Program) (t : Thou
   pub owns : Owns scene n p s history
 
 pub record HasHistories (scene : Scene) (m : Moment) : Type 0 where
-  pub even : length m.state.journals ≡ length scene.stations
+  pub even : length m.state.journals ≡ length scene.script_files
   pub thoughts : length m.thoughts ≡ length scene.programs
-  pub rise : StationsRise scene m.state
+  pub rise : ScriptFilesRise scene m.state
   pub signed : AreSigned (length scene.programs) m.state
   pub tasks : (n : ℕ) (p : Program) (t : Thought) → slice_get scene.programs n ≡ Some p
       → slice_get m.thoughts n ≡ Some t → HasMade scene m.state n p t

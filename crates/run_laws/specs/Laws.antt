@@ -85,7 +85,7 @@ MergedFromCloses = (boot : Entry) (list : List Entry) (journals : List Journal)
 abbrev pub MergedFromServed : Type 0
 MergedFromServed = (scene : Scene) (run : Run) (inodes tasks : List (Passed Entry))
     → BookClosed scene.boot run.list (inodes ++ tasks)
-    → AllZip InodeClosed (journals_of scene scene.stations run.journals) inodes
+    → AllZip InodeClosed (journals_of scene scene.script_files run.journals) inodes
     → All (λ q. q.mine ≡ []) tasks
     → length tasks ≡ length scene.programs → (s : Served scene run) → RiseServed scene run s
-    → IsMerged scene.boot run.list (journals_of scene scene.stations run.journals)
+    → IsMerged scene.boot run.list (journals_of scene scene.script_files run.journals)

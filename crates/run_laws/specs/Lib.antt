@@ -2,7 +2,7 @@ pub mod Steps
 pub mod Logs
 pub mod Laws
 pub mod Checks
-pub mod Stations
+pub mod ScriptFiles
 pub mod Moments
 pub mod Histories
 pub use Rattle.grow_list.specs as growing

@@ -4,7 +4,7 @@ use Rattle.policy_rules.specs.declared.access.Action.{Action}
 use Rattle.policy_rules.specs.declared.rule.Func.{Func}
 use Rattle.inode_events.specs.Asked.{outcome}
 use Rattle.inode_events.specs.Checks.{no_action}
-use Rattle.inode_events.specs.Past.{past}
+use Rattle.inode_events.specs.NewestFirst.{newest_first}
 use Rattle.inode_events.specs.Semaphores.{semaphore_says}
 use Rattle.inode_events.specs.State.{metadata}
 use Rattle.inode_events.specs.declared.deed.Deed.{Deed}
@@ -15,11 +15,11 @@ use Rattle.inode_events.specs.declared.told.Told.TheVariants as told
 use Rattle.run_model.specs.steps.Mind.{Step}
 use Rattle.run_model.specs.steps.Mind.{Nothing, Does, Checks, Signals, Appends}
 use Rattle.run_model.specs.History.{Answer, Thought, plain_answer, step_at, thought}
-use Rattle.run_model.specs.Scene.{Program, Scene, Station, decided, inode_of, mode_of, rules_with}
+use Rattle.run_model.specs.Scene.{Program, Scene, ScriptFile, decided, inode_of, mode_of, rules_with}
 use Rattle.run_model.specs.Served.{AreSuited, RulesRise}
-use Rattle.run_model.specs.Turns.{Moment, State, go, journal_at, run_at, start_of, turn, turns_of}
+use Rattle.run_model.specs.Turns.{Moment, State, journal_at, run_at, start_of, step_task, turn, turns_of}
 use Rattle.run_laws.specs.Checks.{ChecksFit, Seen, SeesMore}
-use Rattle.run_laws.specs.Stations.{StationRules}
+use Rattle.run_laws.specs.ScriptFiles.{ScriptFileRules}
 
 -- ---- the answer to a step: one, or none if the step is blocked
 
@@ -28,29 +28,31 @@ answers_told place action rules None = []
 answers_told place action rules (Some t) =
     record { place = place; told = t; action = action; rules = rules } ∷ []
 
-abbrev pub does_answers : Scene → State → ℕ → Option Station → Deed → List Answer
+abbrev pub does_answers : Scene → State → ℕ → Option ScriptFile → Deed → List Answer
 does_answers scene s i None d = []
-does_answers scene s i (Some station) d =
+does_answers scene s i (Some script_file) d =
     answers_told (length (journal_at s i)) no_action 0
-    (outcome (inode_of scene station) s.list d (past (journal_at s i)))
+    (outcome (inode_of scene script_file) s.list d (newest_first (journal_at s i)))
 
-abbrev pub check_answers : Scene → Program → State → ℕ → Option Station → ℕ → Func → ℕ → List Answer
+abbrev pub check_answers : Scene → Program → State → ℕ → Option ScriptFile → ℕ → Func → ℕ
+    → List Answer
 check_answers scene p s i None file func mask = []
-check_answers scene p s i (Some station) file func mask =
+check_answers scene p s i (Some script_file) file func mask =
     let rules = rules_with scene s.added in
-    let action = decided rules p.cred station.place (metadata (past (journal_at s i))) func mask in
+    let action = decided rules p.cred script_file.place (metadata (newest_first (journal_at s i)))
+    func mask in
     answers_told (length (journal_at s i)) action (length rules)
-    (outcome (inode_of scene station) s.list (deed.Check file func action (length rules))
-    (past (journal_at s i)))
+    (outcome (inode_of scene script_file) s.list (deed.Check file func action (length rules))
+    (newest_first (journal_at s i)))
 
 abbrev pub answers_to : Scene → Program → State → Option Step → List Answer
 answers_to scene p s None = []
 answers_to scene p s (Some Nothing) = plain_answer 0 told.Nothing ∷ []
-answers_to scene p s (Some (Does i d)) = does_answers scene s i (slice_get scene.stations i) d
+answers_to scene p s (Some (Does i d)) = does_answers scene s i (slice_get scene.script_files i) d
 answers_to scene p s (Some (Checks i file func mask)) =
-    check_answers scene p s i (slice_get scene.stations i) file func mask
+    check_answers scene p s i (slice_get scene.script_files i) file func mask
 answers_to scene p s (Some (Signals d)) =
-    answers_told (length s.signals) no_action 0 (semaphore_says (past s.signals) d)
+    answers_told (length s.signals) no_action 0 (semaphore_says (newest_first s.signals) d)
 answers_to scene p s (Some (Appends rule)) = plain_answer (length s.added) told.Done ∷ []
 
 -- the history of the task after a turn, with the turn's answer if there is one
@@ -61,33 +63,33 @@ abbrev pub seen_in : State → Seen
 seen_in s = record { journals = s.journals; added = s.added }
 
 -- the number of rules never falls along any journal
-abbrev pub StationsRise : Scene → State → Type 0
-StationsRise scene s =
+abbrev pub ScriptFilesRise : Scene → State → Type 0
+ScriptFilesRise scene s =
     (i : ℕ) (journal : List Event) → slice_get s.journals i ≡ Some journal
-    → StationRules (length scene.rules) journal s.added
+    → ScriptFileRules (length scene.rules) journal s.added
 
 -- ---- one turn
 
-abbrev pub GoHears : Type 0
-GoHears = (scene : Scene) (n : ℕ) (p : Program) (s : State) (h : List Answer)
-    → (go scene n p s (thought (mode_of scene) p h)).thought
+abbrev pub StepHears : Type 0
+StepHears = (scene : Scene) (n : ℕ) (p : Program) (s : State) (h : List Answer)
+    → (step_task scene n p s (thought (mode_of scene) p h)).thought
     ≡ thought (mode_of scene) p (history_after scene p s h)
 
-abbrev pub GoGrows : Type 0
-GoGrows = (scene : Scene) (n : ℕ) (p : Program) (s : State) (t : Thought)
-    → SeesMore (seen_in s) (seen_in (go scene n p s t).state)
-    × (length (go scene n p s t).state.journals ≡ length s.journals)
+abbrev pub StepGrows : Type 0
+StepGrows = (scene : Scene) (n : ℕ) (p : Program) (s : State) (t : Thought)
+    → SeesMore (seen_in s) (seen_in (step_task scene n p s t).state)
+    × (length (step_task scene n p s t).state.journals ≡ length s.journals)
 
-abbrev pub GoFits : Type 0
-GoFits = (scene : Scene) (n : ℕ) (p : Program) (s : State) (h : List Answer)
-    → length s.journals ≡ length scene.stations → ChecksFit scene p (seen_in s) h
-    → ChecksFit scene p (seen_in (go scene n p s (thought (mode_of scene) p h)).state)
+abbrev pub StepFits : Type 0
+StepFits = (scene : Scene) (n : ℕ) (p : Program) (s : State) (h : List Answer)
+    → length s.journals ≡ length scene.script_files → ChecksFit scene p (seen_in s) h
+    → ChecksFit scene p (seen_in (step_task scene n p s (thought (mode_of scene) p h)).state)
     (history_after scene p s h)
 
-abbrev pub GoRises : Type 0
-GoRises = (scene : Scene) (n : ℕ) (p : Program) (s : State) (t : Thought)
-    → length s.journals ≡ length scene.stations → StationsRise scene s
-    → StationsRise scene (go scene n p s t).state
+abbrev pub StepRises : Type 0
+StepRises = (scene : Scene) (n : ℕ) (p : Program) (s : State) (t : Thought)
+    → length s.journals ≡ length scene.script_files → ScriptFilesRise scene s
+    → ScriptFilesRise scene (step_task scene n p s t).state
 
 -- ---- a moment
 
@@ -97,8 +99,8 @@ pub record HasChecks (scene : Scene) (s : State) (p : Program) (t : Thought) : T
   pub fit : ChecksFit scene p (seen_in s) history
 
 pub record IsFit (scene : Scene) (m : Moment) : Type 0 where
-  pub even : length m.state.journals ≡ length scene.stations
-  pub rise : StationsRise scene m.state
+  pub even : length m.state.journals ≡ length scene.script_files
+  pub rise : ScriptFilesRise scene m.state
   pub tasks : (n : ℕ) (p : Program) (t : Thought) → slice_get scene.programs n ≡ Some p
       → slice_get m.thoughts n ≡ Some t → HasChecks scene m.state p t
 
@@ -118,5 +120,5 @@ abbrev pub FitIsSuited : Type 0
 FitIsSuited = (scene : Scene) (m : Moment) → IsFit scene m
     → ((n : ℕ) (p : Program) (t : Thought) → slice_get scene.programs n ≡ Some p
     → slice_get m.thoughts n ≡ Some t → HasSuited scene m p t)
-    × All (λ (journal : List Event). RulesRise (length scene.rules) (past journal))
+    × All (λ (journal : List Event). RulesRise (length scene.rules) (newest_first journal))
     (run_at m).journals

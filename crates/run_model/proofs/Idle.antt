@@ -10,7 +10,7 @@ use Rattle.call_steps.specs.policy.declared.rule.Func.{Func}
 use Rattle.call_steps.specs.events.Checks.{no_action}
 use Rattle.call_steps.specs.events.Asked.{outcome}
 use Rattle.call_steps.specs.events.Inode.{Inode}
-use Rattle.call_steps.specs.events.Past.{past}
+use Rattle.call_steps.specs.events.NewestFirst.{newest_first}
 use Rattle.call_steps.specs.events.State.{metadata}
 use Rattle.call_steps.specs.events.Semaphores.{semaphore_says}
 use Rattle.call_steps.specs.events.declared.deed.Deed.{Deed}
@@ -21,8 +21,8 @@ use Rattle.call_steps.specs.Mind.{Nothing, Does, Checks, Signals, Appends}
 use Rattle.run_model.specs.History.{Thought, step_at, who_at}
 use Rattle.run_model.specs.Laws.{IdleRound, IdleTurn, OneEnd}
 use Rattle.run_model.specs.Rounds.{RoundsTo, all_tasks, any_moves, is_moved, moves, moves_at, round_moves, rounds}
-use Rattle.run_model.specs.Scene.{decided, Program, Scene, Station, inode_of, mode_of, rules_with}
-use Rattle.run_model.specs.Turns.{Moment, State, Turned, go, go_check, go_does, go_event, go_signal, go_step, hear_told, journal_at, state_on, turn, turn_of, turned, turns_of}
+use Rattle.run_model.specs.Scene.{decided, Program, Scene, ScriptFile, inode_of, mode_of, rules_with}
+use Rattle.run_model.specs.Turns.{Moment, State, Turned, hear_told, journal_at, state_on, step_check, step_does, step_due, step_event, step_signal, step_task, turn, turn_of, turned, turns_of}
 
 -- a turn left the lists and the task unchanged
 abbrev Same : Turned → State → Thought → Type 0
@@ -46,48 +46,50 @@ event_told scene n p s t i inode d action rules (Some o) still = absurd (true≢
 
 event_idle : (scene : Scene) (n : ℕ) (p : Program) (s : State) (t : Thought) (i : ℕ)
     (inode : Inode) (d : Deed) (action : Action) (rules : ℕ)
-    → is_moved (go_event scene n p s t i inode d action rules).turn ≡ false
-    → Same (go_event scene n p s t i inode d action rules) s t
+    → is_moved (step_event scene n p s t i inode d action rules).turn ≡ false
+    → Same (step_event scene n p s t i inode d action rules) s t
 event_idle scene n p s t i inode d action rules still =
     event_told scene n p s t i inode d action rules
-    (outcome inode s.list d (past (journal_at s i))) still
+    (outcome inode s.list d (newest_first (journal_at s i))) still
 
 does_idle : (scene : Scene) (n : ℕ) (p : Program) (s : State) (t : Thought) (i : ℕ)
-    (station : Option Station) (d : Deed)
-    → is_moved (go_does scene n p s t i station d).turn ≡ false
-    → Same (go_does scene n p s t i station d) s t
+    (script_file : Option ScriptFile) (d : Deed)
+    → is_moved (step_does scene n p s t i script_file d).turn ≡ false
+    → Same (step_does scene n p s t i script_file d) s t
 does_idle scene n p s t i None d still = (refl, refl)
-does_idle scene n p s t i (Some station) d still =
-    event_idle scene n p s t i (inode_of scene station) d no_action 0 still
+does_idle scene n p s t i (Some script_file) d still =
+    event_idle scene n p s t i (inode_of scene script_file) d no_action 0 still
 
 check_idle : (scene : Scene) (n : ℕ) (p : Program) (s : State) (t : Thought) (i : ℕ)
-    (station : Option Station) (file : ℕ) (func : Func) (mask : ℕ)
-    → is_moved (go_check scene n p s t i station file func mask).turn ≡ false
-    → Same (go_check scene n p s t i station file func mask) s t
+    (script_file : Option ScriptFile) (file : ℕ) (func : Func) (mask : ℕ)
+    → is_moved (step_check scene n p s t i script_file file func mask).turn ≡ false
+    → Same (step_check scene n p s t i script_file file func mask) s t
 check_idle scene n p s t i None file func mask still = (refl, refl)
-check_idle scene n p s t i (Some station) file func mask still =
+check_idle scene n p s t i (Some script_file) file func mask still =
     let rules = rules_with scene s.added in
-    let action = decided rules p.cred station.place (metadata (past (journal_at s i))) func mask in
-    event_idle scene n p s t i (inode_of scene station)
+    let action = decided rules p.cred script_file.place (metadata (newest_first (journal_at s i)))
+    func mask in
+    event_idle scene n p s t i (inode_of scene script_file)
     (deed.Check file func action (length rules)) action (length rules) still
 
 signal_idle : (scene : Scene) (n : ℕ) (p : Program) (s : State) (t : Thought) (d : Deed)
     (o : Option Told)
-    → is_moved (go_signal scene n p s t d o).turn ≡ false → Same (go_signal scene n p s t d o) s t
+    → is_moved (step_signal scene n p s t d o).turn ≡ false
+    → Same (step_signal scene n p s t d o) s t
 signal_idle scene n p s t d None still =
     (ap (λ es. record s { signals = es }) (append-nil s.signals), refl)
 signal_idle scene n p s t d (Some o) still = absurd (true≢false still)
 
 step_idle : (scene : Scene) (n : ℕ) (p : Program) (s : State) (t : Thought) (step : Option Step)
-    → is_moved (go_step scene n p s t step).turn ≡ false → Same (go_step scene n p s t step) s t
+    → is_moved (step_due scene n p s t step).turn ≡ false → Same (step_due scene n p s t step) s t
 step_idle scene n p s t None still = (refl, refl)
 step_idle scene n p s t (Some Nothing) still = absurd (true≢false still)
 step_idle scene n p s t (Some (Does i d)) still =
-    does_idle scene n p s t i (slice_get scene.stations i) d still
+    does_idle scene n p s t i (slice_get scene.script_files i) d still
 step_idle scene n p s t (Some (Checks i file func mask)) still =
-    check_idle scene n p s t i (slice_get scene.stations i) file func mask still
+    check_idle scene n p s t i (slice_get scene.script_files i) file func mask still
 step_idle scene n p s t (Some (Signals d)) still =
-    signal_idle scene n p s t d (semaphore_says (past s.signals) d) still
+    signal_idle scene n p s t d (semaphore_says (newest_first s.signals) d) still
 step_idle scene n p s t (Some (Appends rule)) still = absurd (true≢false still)
 
 pub idle_turn : IdleTurn
@@ -110,7 +112,7 @@ turned_idle scene m n (Some p) (Some t) here still =
     ap (λ (s : State). record {
       state = s;
       thoughts = slice_set m.thoughts n
-          (go scene n p m.state t).thought;
+          (step_task scene n p m.state t).thought;
     }) same.0
     ∙ ap (λ (ts : List Thought). record m { thoughts = ts })
     (ap (slice_set m.thoughts n) same.1 ∙ set_same m.thoughts n t here)

@@ -23,7 +23,7 @@ use Rattle.call_steps.specs.policy.declared.rule.Func.TheVariants.{FileCheck}
 use Rattle.call_steps.specs.events.Callers.{caller_of}
 use Rattle.call_steps.specs.events.Checks.{no_action}
 use Rattle.call_steps.specs.events.Inode.{nobody}
-use Rattle.call_steps.specs.events.Past.{past}
+use Rattle.call_steps.specs.events.NewestFirst.{newest_first}
 use Rattle.call_steps.specs.events.declared.deed.Deed.{Deed}
 use Rattle.call_steps.specs.events.declared.deed.Deed.TheVariants as deed
 use Rattle.call_steps.specs.events.declared.deed.How.TheVariants as how
@@ -41,7 +41,7 @@ use Rattle.call_steps.specs.declared.reply.Reply.TheVariants as reply
 use Rattle.run_model.specs.History.{Answer, Thought, own, plain_answer, start}
 use Rattle.run_model.specs.Rounds.{IsRunOf, round_moves, rounds}
 use Rattle.call_steps.specs.declared.ending.Ending.TheVariants as ending
-use Rattle.run_model.specs.Scene.{Program, Scene, Station}
+use Rattle.run_model.specs.Scene.{Program, Scene, ScriptFile}
 use Rattle.run_model.specs.Served.{IsDecided, IsServed, RulesRise, Run, Served, events_of}
 use Rattle.run_model.specs.Turns.{Moment, run_at, start_of, turn, turns_of}
 
@@ -65,8 +65,8 @@ image = record {
   versions = true;
 }
 
-abbrev pub station : Station
-station = record {
+abbrev pub script_file : ScriptFile
+script_file = record {
   path = 47 ∷ 97 ∷ [];
   birth = image;
   place = record { magic = 0xef53; uuid = 1; name = codes "ext4"; versions = true };
@@ -113,7 +113,7 @@ scene_with programs =
     record {
       settings = settings;
       boot = boot;
-      stations = station ∷ [];
+      script_files = script_file ∷ [];
       rules = rule
           ∷ [];
       programs = programs;
@@ -147,7 +147,7 @@ measure = record {
 
 abbrev pub entry : Entry
 entry = entry_of 10 ImaNg (digest_of Sha256 image.content)
-    (digest_of Sha1 image.content) station.path []
+    (digest_of Sha1 image.content) script_file.path []
 
 abbrev pub granted : Placed → Told
 granted placed =
@@ -214,7 +214,7 @@ one = scene_with (reader ∷ [])
 
 one_hashes : turns_of one (start_of one) (0 ∷ 0 ∷ 0 ∷ 0 ∷ [])
     ≡ moment hashed (boot ∷ []) (finishing ∷ [])
-unfolding past
+unfolding newest_first
 one_hashes = refl
 
 -- the moment after the finish, given where the entry is in the list
@@ -223,7 +223,7 @@ one_finished at = moment (opened (placed_by at 1)) (add_by at (boot ∷ []) entr
 
 one_finishes : turn one (moment hashed (boot ∷ []) (finishing ∷ [])) 0
     ≡ one_finished (place_of_same (boot ∷ []) entry)
-unfolding past
+unfolding newest_first
 one_finishes = refl
 
 abbrev pub read : List Event
@@ -248,7 +248,7 @@ abbrev pub one_end : Moment
 one_end = moment read (boot ∷ entry ∷ []) (has_closed ∷ [])
 
 one_ends : turns_of one (one_finished None) (0 ∷ 0 ∷ []) ≡ one_end
-unfolding past
+unfolding newest_first
 one_ends = refl
 
 -- the seven turns, if the entry isn't the same as the boot aggregate
@@ -277,9 +277,9 @@ answers =
 -- the check was decided by the script's rule
 one_is_decided : IsDecided one one_run reader 1
     (record { place = 2; told = told.Quiet; action = measure; rules = 1 }) 0 FileCheck 4
-unfolding past
+unfolding newest_first
 one_is_decided = record {
-  station = station;
+  script_file = script_file;
   journal = read;
   at = refl;
   journal_at = refl;
@@ -295,7 +295,7 @@ one_events zero journal e =
 one_events (suc i) journal e = absurd (none-some journal e)
 
 one_is_served : IsServed one one_run 0 reader has_closed
-unfolding past
+unfolding newest_first
 one_is_served = record {
   history = answers;
   stands = refl;
@@ -344,8 +344,8 @@ all_of_one (e ∷ es) is =
 read_by : All IsOfOne read
 read_by = all_of_one read refl
 
-read_rises : RulesRise 1 (past read)
-unfolding past
+read_rises : RulesRise 1 (newest_first read)
+unfolding newest_first
 read_rises = (
   omega arith,
   (
@@ -359,7 +359,7 @@ read_rises = (
 
 -- the run is served
 pub one_run_is_served : Served one one_run
-unfolding past
+unfolding newest_first
 one_run_is_served = record {
   journals = refl;
   thoughts = refl;
@@ -367,7 +367,8 @@ one_run_is_served = record {
   no_other_events = All-cons (All IsOfOne) read [] read_by (All-nil (All IsOfOne));
   no_other_rules = All-nil (λ r. r.who.task < 1);
   rules_rise =
-      All-cons (λ j. RulesRise 1 (past j)) read [] read_rises (All-nil (λ j. RulesRise 1 (past j)));
+      All-cons (λ j. RulesRise 1 (newest_first j)) read [] read_rises
+      (All-nil (λ j. RulesRise 1 (newest_first j)));
 }
 
 -- ---- by rounds
@@ -378,16 +379,16 @@ five_turns differs =
     ap (λ m. turns_of one m (0 ∷ [])) one_hashes ∙ one_finishes ∙ ap one_finished differs
 
 fifth_moves : round_moves one (one_finished None) ≡ true
-unfolding past
+unfolding newest_first
 fifth_moves = refl
 
 sixth_moves : round_moves one (turns_of one (one_finished None) (0 ∷ [])) ≡ true
-unfolding past
+unfolding newest_first
 sixth_moves = refl
 
 each_moves : place_of_same (boot ∷ []) entry ≡ None → (k : ℕ) → k < 7
     → round_moves one (rounds one k (start_of one)) ≡ true
-unfolding past
+unfolding newest_first
 each_moves differs zero below = refl
 each_moves differs (suc zero) below = refl
 each_moves differs (suc (suc zero)) below = refl
@@ -429,7 +430,7 @@ two = scene_with (record { cred = root; calls = reading ∷ [] }
 
 two_hash : turns_of two (start_of two) (0 ∷ 0 ∷ 0 ∷ 0 ∷ [])
     ≡ moment hashed (boot ∷ []) (finishing ∷ start ∷ [])
-unfolding past
+unfolding newest_first
 two_hash = refl
 
 abbrev two_finished : Option ℕ → Moment
@@ -438,7 +439,7 @@ two_finished at =
 
 two_finish : turn two (moment hashed (boot ∷ []) (finishing ∷ start ∷ [])) 0
     ≡ two_finished (place_of_same (boot ∷ []) entry)
-unfolding past
+unfolding newest_first
 two_finish = refl
 
 abbrev pub met : List Event
@@ -469,11 +470,11 @@ has_written = record {
 }
 
 abbrev pub two_end : Moment
-two_end = moment met (boot ∷ entry ∷ violation_of ImaNg Sha256 station.path ∷ [])
+two_end = moment met (boot ∷ entry ∷ violation_of ImaNg Sha256 script_file.path ∷ [])
     (has_opened ∷ has_written ∷ [])
 
 two_end_so : turns_of two (two_finished None) (1 ∷ 1 ∷ []) ≡ two_end
-unfolding past same
+unfolding newest_first same
 two_end_so = refl
 
 -- the seven turns of the schedule

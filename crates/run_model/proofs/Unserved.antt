@@ -21,7 +21,7 @@ use Rattle.call_steps.specs.policy.declared.access.Action.{Action}
 use Rattle.call_steps.specs.policy.declared.rule.Func.TheVariants.{FileCheck}
 use Rattle.call_steps.specs.events.Callers.{caller_of}
 use Rattle.call_steps.specs.events.Checks.{no_action}
-use Rattle.call_steps.specs.events.Past.{past}
+use Rattle.call_steps.specs.events.NewestFirst.{newest_first}
 use Rattle.call_steps.specs.events.State.{metadata}
 use Rattle.call_steps.specs.events.declared.deed.Deed.{Deed}
 use Rattle.call_steps.specs.events.declared.deed.Deed.TheVariants as deed
@@ -35,9 +35,9 @@ use Rattle.call_steps.specs.declared.reply.Reply.{Reply}
 use Rattle.call_steps.specs.declared.reply.Reply.TheVariants as reply
 use Rattle.policy_cell.specs.declared.cell.RuleEntry.{RuleEntry}
 use Rattle.run_model.specs.History.{Answer, Thought, event_in, own, plain_answer, step_at, thought, who_at}
-use Rattle.run_model.specs.Scene.{Program, Scene, Station, decided, mode_of}
+use Rattle.run_model.specs.Scene.{Program, Scene, ScriptFile, decided, mode_of}
 use Rattle.run_model.specs.Served.{AreSuited, IsDecided, IsServed, Run, Served, final_rules}
-use Rattle.run_model.proofs.Rows.{boot, did, entry, has_opened, has_written, measure, opened, reading, root, rule, scene_with, station, two, who, writing}
+use Rattle.run_model.proofs.Rows.{boot, did, entry, has_opened, has_written, measure, opened, reading, root, rule, scene_with, script_file, two, who, writing}
 
 -- ---- the first answers of a history
 
@@ -117,7 +117,7 @@ abbrev run_with : List Event → Run
 run_with events =
     record {
       journals = (opened (Added 1) ++ events) ∷ [];
-      list = boot ∷ entry ∷ violation_of ImaNg Sha256 station.path ∷ [];
+      list = boot ∷ entry ∷ violation_of ImaNg Sha256 script_file.path ∷ [];
       added = [];
       thoughts = has_opened ∷ has_written ∷ [];
     }
@@ -277,7 +277,7 @@ rules_in d = 0
 
 -- the rule measures only reads
 misruled_unserved : Served two misruled → ⊥
-unfolding past
+unfolding newest_first
 misruled_unserved served = at (served.tasks 1 writer has_written refl refl) where
   journal : List Event
   journal = opened (Added 1) ++ counted ∷ checked (who 1 0 1) measure ∷ []
@@ -293,7 +293,8 @@ misruled_unserved served = at (served.tasks 1 writer has_written refl refl) wher
               let action : c.next.action ≡ measure =
               ap (λ (x : ℕ × Event). action_in x.1.deed) c.event in
               let rules : c.next.rules ≡ 1 = ap (λ (x : ℕ × Event). rules_in x.1.deed) c.event in
-              let there : d.station ≡ station = sym (same_Some station d.station d.at) in
+              let there : d.script_file ≡ script_file =
+              sym (same_Some script_file d.script_file d.at) in
               let file : d.journal ≡ (opened (Added 1) ++ counted
               ∷ checked (who 1 0 1) measure ∷ []) =
               sym (same_Some (opened (Added 1) ++ counted ∷ checked (who 1 0 1) measure ∷ [])
@@ -301,7 +302,7 @@ misruled_unserved served = at (served.tasks 1 writer has_written refl refl) wher
               let decided_so : measure ≡ no_action =
               sym action ∙ d.action
               ∙ (λ i. decided (take (rules i) (rule ∷ [])) root (there i).place
-              (metadata (past (take (place i) (file i)))) FileCheck 2) in
+              (metadata (newest_first (take (place i) (file i)))) FileCheck 2) in
               let measures : true ≡ false = ap (λ (a : Action). a.measure) decided_so in
               cc
 
@@ -351,7 +352,7 @@ check_next a = (a.place, did (who 1 1 1) (deed.Check 6 FileCheck a.action a.rule
 abbrev uncounted : Run
 uncounted = record {
   journals = (opened (Added 1) ++ counted_next ∷ checked_by 1 ∷ []) ∷ [];
-  list = boot ∷ entry ∷ violation_of ImaNg Sha256 station.path ∷ [];
+  list = boot ∷ entry ∷ violation_of ImaNg Sha256 script_file.path ∷ [];
   added = added;
   thoughts = has_opened ∷ has_added ∷ [];
 }

@@ -15,7 +15,7 @@ use Rattle.inode_meta.specs.declared.measurement.Template.TheVariants.{ImaNg}
 use Rattle.call_steps.specs.declared.ending.Ending.TheVariants as ending
 use Rattle.run_model.specs.Rounds.{IsRunOf}
 use Rattle.run_model.specs.Turns.{run_at, start_of, turns_of}
-use Rattle.run_model.proofs.Rows.{boot, entry, has_opened, has_written, image, met, moment, one, one_end, one_is_run, one_run, one_runs, station, two, two_end, two_run}
+use Rattle.run_model.proofs.Rows.{boot, entry, has_opened, has_written, image, met, moment, one, one_end, one_is_run, one_run, one_runs, script_file, two, two_end, two_run}
 
 -- ---- which entries are the same
 

@@ -12,7 +12,7 @@ use Rattle.call_steps.specs.declared.call.Call.TheVariants as call
 use Rattle.call_steps.specs.declared.reply.Reply.{Reply}
 use Rattle.run_model.specs.Ended.{is_done, is_stuck}
 use Rattle.run_model.specs.History.{Thought}
-use Rattle.run_model.specs.Scene.{Program, Scene, Station, inode_of}
+use Rattle.run_model.specs.Scene.{Program, Scene, ScriptFile, inode_of}
 use Rattle.run_model.specs.Served.{Run}
 use Rattle.policy_cell.specs.declared.cell.RuleEntry.{RuleEntry}
 
@@ -34,7 +34,7 @@ pub record EndedValue : Type 0 where
   pub base : ℕ
   pub grows : Bool
 
-abbrev pub inodes_ended : Scene → List Station → List (List Event) → List EndedInodeValue
+abbrev pub inodes_ended : Scene → List ScriptFile → List (List Event) → List EndedInodeValue
 inodes_ended scene [] journals = []
 inodes_ended scene (s ∷ ss) [] = []
 inodes_ended scene (s ∷ ss) (j ∷ js) = ended_inode (inode_of scene s) j ∷ inodes_ended scene ss js
@@ -56,7 +56,7 @@ grows scene = list_any (λ (p : Program). list_any appends p.calls) scene.progra
 -- the final state of a run, in which the PCRs are the replay of the measurement list
 abbrev pub ended_of : Scene → Run → EndedValue
 ended_of scene run = record {
-  inodes = inodes_ended scene scene.stations run.journals;
+  inodes = inodes_ended scene scene.script_files run.journals;
   list = run.list;
   banks = banks_of run.list;
   tasks = tasks_ended scene.programs run.thoughts;

@@ -3,7 +3,7 @@ use Rattle.std.specs.Prelude.{◌≡◌, ℕ, zero, suc, ◌<◌, ◌++◌, ◌|
 use Rattle.run_model.specs.History.{Thought}
 use Rattle.run_model.specs.Served.{Run}
 use Rattle.run_model.specs.Scene.{Program, Scene}
-use Rattle.run_model.specs.Turns.{Moment, go, run_at, start_of, turn, turns_of}
+use Rattle.run_model.specs.Turns.{Moment, run_at, start_of, step_task, turn, turns_of}
 use Rattle.call_steps.specs.declared.ending.Ending.{Ending}
 use Rattle.call_steps.specs.declared.ending.Ending.TheVariants as ending
 use Rattle.run_model.specs.declared.turn.Turn.{Turn}
@@ -19,7 +19,7 @@ is_moved turns.Moved = true
 is_moved _ = false
 
 abbrev pub moves_at : Scene → Moment → ℕ → Option Program → Option Thought → Bool
-moves_at scene m n (Some p) (Some t) = is_moved (go scene n p m.state t).turn
+moves_at scene m n (Some p) (Some t) = is_moved (step_task scene n p m.state t).turn
 moves_at scene m n _ _ = false
 
 -- a turn of task n moves it

@@ -20,7 +20,7 @@ abbrev pub no_super : Super
 no_super = record { magic = 0; uuid = 0; name = []; versions = false }
 
 -- a file of the script: its path, its inode at birth, and its file system
-pub record Station : Type 0 where
+pub record ScriptFile : Type 0 where
   pub path : List ℕ
   pub birth : Image
   pub place : Super
@@ -34,12 +34,12 @@ pub record Scene : Type 0 where
   pub settings : Settings
   -- the first entry of the measurement list
   pub boot : Entry
-  pub stations : List Station
+  pub script_files : List ScriptFile
   -- the rules of the script; tasks may append others
   pub rules : List RuleValue
   pub programs : List Program
 
-abbrev pub inode_of : Scene → Station → Inode
+abbrev pub inode_of : Scene → ScriptFile → Inode
 inode_of scene s = record { path = s.path; settings = scene.settings; birth = s.birth }
 
 abbrev pub mode_of : Scene → Mode

@@ -4,7 +4,7 @@ use Rattle.policy_cell.specs.growing.Entries.{entries_of}
 use Rattle.call_steps.specs.policy.RuleValue.{RuleValue}
 use Rattle.call_steps.specs.policy.declared.rule.Func.{Func}
 use Rattle.call_steps.specs.events.Callers.{caller_of}
-use Rattle.call_steps.specs.events.Past.{past}
+use Rattle.call_steps.specs.events.NewestFirst.{newest_first}
 use Rattle.call_steps.specs.events.State.{metadata}
 use Rattle.call_steps.specs.events.declared.deed.Deed.{Deed}
 use Rattle.call_steps.specs.events.declared.deed.Deed.TheVariants as deed
@@ -14,7 +14,7 @@ use Rattle.call_steps.specs.templates.declared.entry.Entry.{Entry}
 use Rattle.call_steps.specs.Mind.{Step}
 use Rattle.call_steps.specs.Mind.{Nothing, Does, Checks, Signals, Appends}
 use Rattle.run_model.specs.History.{Answer, Thought, own, own_rules, plain_answer, step_at, thought}
-use Rattle.run_model.specs.Scene.{Program, Scene, Station, decided, mode_of, rules_with}
+use Rattle.run_model.specs.Scene.{Program, Scene, ScriptFile, decided, mode_of, rules_with}
 use Rattle.policy_cell.specs.declared.cell.RuleEntry.{RuleEntry}
 
 -- a run as it is shown: the journal of each inode, oldest event first, the measurement list, the
@@ -57,21 +57,21 @@ rules_known scene p (a ∷ before) =
 -- credentials, the file system of the inode, and the metadata at that check
 pub record IsDecided (scene : Scene) (run : Run) (p : Program) (known : ℕ) (a : Answer) (inode : ℕ)
     (func : Func) (mask : ℕ) : Type 0 where
-  pub station : Station
+  pub script_file : ScriptFile
   pub journal : List Event
-  pub at : slice_get scene.stations inode ≡ Some station
+  pub at : slice_get scene.script_files inode ≡ Some script_file
   pub journal_at : slice_get run.journals inode ≡ Some journal
   pub known_rules : known ≤ a.rules
   pub final : a.rules ≤ length (final_rules scene run)
-  pub action : a.action ≡ decided (take a.rules (final_rules scene run)) p.cred station.place
-      (metadata (past (take a.place journal))) func mask
+  pub action : a.action ≡ decided (take a.rules (final_rules scene run)) p.cred script_file.place
+      (metadata (newest_first (take a.place journal))) func mask
 
 -- an answer suits its step: it holds nothing that the step doesn't ask for, and the inode exists
 abbrev pub Suits : Scene → Run → Program → ℕ → Option Step → Answer → Type 0
 Suits scene run p known None a = ⊥
 Suits scene run p known (Some Nothing) a = a ≡ plain_answer 0 told.Nothing
 Suits scene run p known (Some (Does inode d)) a =
-    (inode < length scene.stations) × (a ≡ plain_answer a.place a.told)
+    (inode < length scene.script_files) × (a ≡ plain_answer a.place a.told)
 Suits scene run p known (Some (Checks inode file func mask)) a =
     IsDecided scene run p known a inode func mask
 Suits scene run p known (Some (Signals d)) a = a ≡ plain_answer a.place told.Done
@@ -115,7 +115,7 @@ pub record IsServed (scene : Scene) (run : Run) (n : ℕ) (p : Program) (t : Tho
 
 pub record Served (scene : Scene) (run : Run) : Type 0 where
   -- one journal for each inode, and one position for each task
-  pub journals : length run.journals ≡ length scene.stations
+  pub journals : length run.journals ≡ length scene.script_files
   pub thoughts : length run.thoughts ≡ length scene.programs
   pub tasks : (n : ℕ) (p : Program) (t : Thought) → slice_get scene.programs n ≡ Some p
       → slice_get run.thoughts n ≡ Some t → IsServed scene run n p t
@@ -125,4 +125,4 @@ pub record Served (scene : Scene) (run : Run) : Type 0 where
   pub no_other_rules : All (λ (r : RuleEntry). r.who.task < length scene.programs) run.added
   -- along the checks of a journal, the number of rules never falls
   pub rules_rise : All (λ (journal : List Event). RulesRise (length scene.rules)
-      (past journal)) run.journals
+      (newest_first journal)) run.journals

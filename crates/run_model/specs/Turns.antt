@@ -8,7 +8,7 @@ use Rattle.call_steps.specs.policy.declared.rule.Func.{Func}
 use Rattle.call_steps.specs.events.Asked.{asked, list_after, made, outcome}
 use Rattle.call_steps.specs.events.Checks.{no_action}
 use Rattle.call_steps.specs.events.Inode.{Inode, nobody}
-use Rattle.call_steps.specs.events.Past.{past}
+use Rattle.call_steps.specs.events.NewestFirst.{newest_first}
 use Rattle.call_steps.specs.events.Semaphores.{semaphore_says}
 use Rattle.call_steps.specs.events.State.{metadata}
 use Rattle.call_steps.specs.events.declared.deed.Deed.{Deed}
@@ -20,7 +20,7 @@ use Rattle.call_steps.specs.Mind.{Step}
 use Rattle.call_steps.specs.Mind.{Nothing, Does, Checks, Signals, Appends}
 use Rattle.run_model.specs.History.{Thought, event, hear, plain_answer, start, step_at, who_at}
 use Rattle.run_model.specs.Served.{Run}
-use Rattle.run_model.specs.Scene.{Program, Scene, Station, decided, inode_of, mode_of, rules_with}
+use Rattle.run_model.specs.Scene.{Program, Scene, ScriptFile, decided, inode_of, mode_of, rules_with}
 use Rattle.policy_cell.specs.declared.cell.RuleEntry.{RuleEntry}
 use Rattle.run_model.specs.declared.turn.Turn.{Turn}
 use Rattle.run_model.specs.declared.turn.Turn.TheVariants as turns
@@ -59,13 +59,14 @@ journal_at s i = get_or s.journals i []
 abbrev pub state_on : State → ℕ → Inode → Who → Deed → Option Told → State
 state_on s i inode who d o = record s {
   journals = slice_set s.journals i (journal_at s i ++ made who d o);
-  list = list_after s.list (asked inode d (past (journal_at s i))) o;
+  list = list_after s.list (asked inode d (newest_first (journal_at s i))) o;
 }
 
 -- an event on an inode; `action` and `rules` are those of a check
-abbrev pub go_event : Scene → ℕ → Program → State → Thought → ℕ → Inode → Deed → Action → ℕ → Turned
-go_event scene n p s t i inode d action rules =
-    let o = outcome inode s.list d (past (journal_at s i)) in
+abbrev pub step_event : Scene → ℕ → Program → State → Thought → ℕ → Inode → Deed → Action → ℕ
+    → Turned
+step_event scene n p s t i inode d action rules =
+    let o = outcome inode s.list d (newest_first (journal_at s i)) in
     record {
       state = state_on s i inode (who_at n p t.mind) d o;
       thought = hear_told (mode_of scene) p t (length (journal_at s i)) action rules o;
@@ -76,25 +77,26 @@ abbrev pub stays : State → Thought → Turned
 stays s t = record { state = s; thought = t; turn = turns.Blocked }
 
 -- a step on an inode that doesn't exist, which no script can name, is blocked
-abbrev pub go_does : Scene → ℕ → Program → State → Thought → ℕ → Option Station → Deed → Turned
-go_does scene n p s t i None d = stays s t
-go_does scene n p s t i (Some station) d =
-    go_event scene n p s t i (inode_of scene station) d no_action 0
+abbrev pub step_does : Scene → ℕ → Program → State → Thought → ℕ → Option ScriptFile → Deed → Turned
+step_does scene n p s t i None d = stays s t
+step_does scene n p s t i (Some script_file) d =
+    step_event scene n p s t i (inode_of scene script_file) d no_action 0
 
 -- a check is decided by all rules in force, for the present metadata
-abbrev pub go_check : Scene → ℕ → Program → State → Thought → ℕ → Option Station → ℕ → Func → ℕ
+abbrev pub step_check : Scene → ℕ → Program → State → Thought → ℕ → Option ScriptFile → ℕ → Func → ℕ
     → Turned
-go_check scene n p s t i None file func mask = stays s t
-go_check scene n p s t i (Some station) file func mask =
+step_check scene n p s t i None file func mask = stays s t
+step_check scene n p s t i (Some script_file) file func mask =
     let rules = rules_with scene s.added in
-    let action = decided rules p.cred station.place (metadata (past (journal_at s i))) func mask in
-    go_event scene n p s t i (inode_of scene station)
+    let action = decided rules p.cred script_file.place (metadata (newest_first (journal_at s i)))
+    func mask in
+    step_event scene n p s t i (inode_of scene script_file)
     (deed.Check file func action (length rules)) action (length rules)
 
 -- ---- a step on the semaphores
 
-abbrev pub go_signal : Scene → ℕ → Program → State → Thought → Deed → Option Told → Turned
-go_signal scene n p s t d o = record {
+abbrev pub step_signal : Scene → ℕ → Program → State → Thought → Deed → Option Told → Turned
+step_signal scene n p s t d o = record {
   state = record s { signals = s.signals ++ made (who_at n p t.mind) d o };
   thought = hear_told (mode_of scene) p t (length s.signals) no_action 0 o;
   turn = turn_of o;
@@ -102,28 +104,29 @@ go_signal scene n p s t d o = record {
 
 -- ---- any step
 
-abbrev pub go_step : Scene → ℕ → Program → State → Thought → Option Step → Turned
-go_step scene n p s t None = record { state = s; thought = t; turn = turns.Done }
-go_step scene n p s t (Some Nothing) =
+abbrev pub step_due : Scene → ℕ → Program → State → Thought → Option Step → Turned
+step_due scene n p s t None = record { state = s; thought = t; turn = turns.Done }
+step_due scene n p s t (Some Nothing) =
     record {
       state = s;
       thought = hear (mode_of scene) p t (plain_answer 0 told.Nothing);
       turn = turns.Moved;
     }
-go_step scene n p s t (Some (Does i d)) = go_does scene n p s t i (slice_get scene.stations i) d
-go_step scene n p s t (Some (Checks i file func mask)) =
-    go_check scene n p s t i (slice_get scene.stations i) file func mask
-go_step scene n p s t (Some (Signals d)) =
-    go_signal scene n p s t d (semaphore_says (past s.signals) d)
-go_step scene n p s t (Some (Appends rule)) = record {
+step_due scene n p s t (Some (Does i d)) =
+    step_does scene n p s t i (slice_get scene.script_files i) d
+step_due scene n p s t (Some (Checks i file func mask)) =
+    step_check scene n p s t i (slice_get scene.script_files i) file func mask
+step_due scene n p s t (Some (Signals d)) =
+    step_signal scene n p s t d (semaphore_says (newest_first s.signals) d)
+step_due scene n p s t (Some (Appends rule)) = record {
   state = record s { added = s.added ++ record { who = who_at n p t.mind; rule = rule } ∷ [] };
   thought = hear (mode_of scene) p t (plain_answer (length s.added) told.Done);
   turn = turns.Moved;
 }
 
 -- one step of task n
-abbrev pub go : Scene → ℕ → Program → State → Thought → Turned
-go scene n p s t = go_step scene n p s t (step_at p t.mind)
+abbrev pub step_task : Scene → ℕ → Program → State → Thought → Turned
+step_task scene n p s t = step_due scene n p s t (step_at p t.mind)
 
 -- ---- a moment of a run, and turns from there
 
@@ -133,7 +136,7 @@ pub record Moment : Type 0 where
 
 abbrev pub turned : Scene → Moment → ℕ → Option Program → Option Thought → Moment
 turned scene m n (Some p) (Some t) =
-    let after = go scene n p m.state t in record {
+    let after = step_task scene n p m.state t in record {
       state = after.state;
       thoughts = slice_set m.thoughts n after.thought;
     }
@@ -151,13 +154,13 @@ turns_of scene m (n ∷ ns) = turns_of scene (turn scene m n) ns
 -- ---- the start and the end
 
 -- the journal of an inode that was just created
-abbrev pub newborn : Station → List Event
-newborn station = event nobody deed.Birth (told.Image station.birth) ∷ []
+abbrev pub newborn : ScriptFile → List Event
+newborn script_file = event nobody deed.Birth (told.Image script_file.birth) ∷ []
 
 abbrev pub start_of : Scene → Moment
 start_of scene = record {
   state = record {
-    journals = map newborn scene.stations;
+    journals = map newborn scene.script_files;
     list = scene.boot
         ∷ [];
     signals = [];

@@ -12,22 +12,22 @@ use Rattle.ima_templates.specs.Path.{IsGraphic, IsMeasuredPath}
 use Rattle.policy_rules.specs.meta.declared.measurement.Template.{Template}
 use Rattle.policy_rules.specs.meta.declared.measurement.Template.TheVariants.{Ima, ImaNg, ImaSig, ImaBuf}
 use Rattle.policy_rules.specs.declared.access.Super.{Super}
-use Rattle.run_model.specs.Scene.{Station}
+use Rattle.run_model.specs.Scene.{ScriptFile}
 use Rattle.script_text.specs.Forms.{IsDigestOf, IsFile, IsScript}
 use Rattle.script_text.specs.ScriptValue.{ScriptValue}
 use Rattle.script_text.specs.Settings.{boot_algo}
 use Rattle.script_text.specs.declared.blocks.FileBlock.{FileBlock}
 use Rattle.script_text.proofs.Holding.{left_true, right_true}
 use Rattle.policy_rules.specs.forms.Words.{is_visible}
-use Rattle.script_scene.specs.Scene.{IsForFiles, boot_by, scene_of, station_of}
+use Rattle.script_scene.specs.Scene.{IsForFiles, boot_by, scene_of, script_file_of}
 use Rattle.script_scene.proofs.Paths.{measured_path}
 use Rattle.shown_laws.specs.Places.{HasForms}
 
 -- the paths of a script's files can be shown by each template
 paths_shown : (supers : List Super) (files : List FileBlock)
     → AllByRecursion (IsFile supers) files
-    → AllByRecursion (λ (x : Station). IsMeasuredPath Ima x.path)
-    (map (station_of supers) files)
+    → AllByRecursion (λ (x : ScriptFile). IsMeasuredPath Ima x.path)
+    (map (script_file_of supers) files)
 paths_shown supers [] h = tt
 paths_shown supers (b ∷ bs) h = (measured_path b.path h.0.path, paths_shown supers bs h.1)
 
@@ -111,7 +111,7 @@ boot_entry s h =
 pub script_forms : (s : ScriptValue) → IsScript s → (for_files : IsForFiles s)
     → HasForms (scene_of s for_files)
 script_forms s kept for_files = record {
-  paths = All-from_recursion (λ (x : Station). IsMeasuredPath Ima x.path)
-      (map (station_of s.supers) s.files) (paths_shown s.supers s.files kept.files.each);
+  paths = All-from_recursion (λ (x : ScriptFile). IsMeasuredPath Ima x.path)
+      (map (script_file_of s.supers) s.files) (paths_shown s.supers s.files kept.files.each);
   boot = boot_entry s kept.boot;
 }

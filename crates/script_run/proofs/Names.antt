@@ -8,13 +8,13 @@ use Rattle.policy_rules.specs.declared.access.Super.{Super}
 use Rattle.report_laws.specs.Law.{HasNames, IsNamedCall}
 use Rattle.report_text.proofs.CleanWords.{visible}
 use Rattle.report_text.specs.Ranges.{IsClean}
-use Rattle.run_model.specs.Scene.{Program, Station}
+use Rattle.run_model.specs.Scene.{Program, ScriptFile}
 use Rattle.script_text.specs.Forms.{IsFile, IsScript, are_bytes, is_attr, is_cred, is_line_call, is_mode, is_task}
 use Rattle.script_text.specs.ScriptValue.{ScriptValue}
 use Rattle.script_text.specs.declared.blocks.FileBlock.{FileBlock}
 use Rattle.script_text.specs.declared.blocks.TaskBlock.{TaskBlock}
 use Rattle.script_text.proofs.Holding.{left_true, right_true}
-use Rattle.script_scene.specs.Scene.{IsForFiles, program_of, scene_of, station_of}
+use Rattle.script_scene.specs.Scene.{IsForFiles, program_of, scene_of, script_file_of}
 use Rattle.policy_rules.specs.forms.Tokens.{is_filled}
 use Rattle.policy_rules.specs.forms.Words.{is_clean, is_visible, is_word}
 use Rattle.ima_templates.specs.xattrs.Attrs.{Pair}
@@ -38,8 +38,8 @@ attrs_named (p ∷ ps) h = (
 
 files_named : (supers : List Super) (files : List FileBlock)
     → AllByRecursion (IsFile supers) files
-    → AllByRecursion (λ (s : Station). AllByRecursion (λ (p : Pair). IsClean p.0) s.birth.attrs)
-    (map (station_of supers) files)
+    → AllByRecursion (λ (s : ScriptFile). AllByRecursion (λ (p : Pair). IsClean p.0) s.birth.attrs)
+    (map (script_file_of supers) files)
 files_named supers [] h = tt
 files_named supers (b ∷ bs) h =
     (attrs_named b.image.attrs h.0.attrs.forms, files_named supers bs h.1)

@@ -9,7 +9,7 @@ use Rattle.run_model.specs.events.declared.image.Image.{Image}
 use Rattle.run_model.specs.events.declared.settings.Settings.{Settings}
 use Rattle.run_model.specs.policy.RuleValue.{is_named_template}
 use Rattle.run_model.specs.policy.declared.access.Super.{Super}
-use Rattle.run_model.specs.Scene.{Program, Scene, Station, no_super}
+use Rattle.run_model.specs.Scene.{Program, Scene, ScriptFile, no_super}
 use Rattle.script_text.specs.Files.{setup_of}
 use Rattle.script_text.specs.ScriptValue.{ScriptValue}
 use Rattle.script_text.specs.declared.blocks.FileBlock.{FileBlock}
@@ -41,8 +41,8 @@ file_of b = (b.path, b.image)
 abbrev pub fs_of : FileBlock → ℕ
 fs_of b = b.fs
 
-abbrev pub station_of : List Super → FileBlock → Station
-station_of supers b =
+abbrev pub script_file_of : List Super → FileBlock → ScriptFile
+script_file_of supers b =
     record { path = b.path; birth = b.image; place = get_or supers b.fs no_super }
 
 abbrev pub program_of : TaskBlock → Program
@@ -52,7 +52,7 @@ abbrev pub scene_of : (s : ScriptValue) → IsForFiles s → Scene
 scene_of s for_files = record {
   settings = settings_of s for_files;
   boot = boot_by s.template s.boot;
-  stations = map (station_of s.supers) s.files;
+  script_files = map (script_file_of s.supers) s.files;
   rules = s.rules;
   programs = map program_of s.tasks;
 }

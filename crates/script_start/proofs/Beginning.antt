@@ -19,7 +19,7 @@ use Rattle.call_steps.specs.declared.ending.Ending.{Ending}
 use Rattle.run_model.specs.Turns.{start_of}
 use Rattle.script_text.specs.Forms.{IsScript}
 use Rattle.script_text.specs.ScriptValue.{ScriptValue}
-use Rattle.task_core.specs.worlds.WorldConsts.{Site}
+use Rattle.task_core.specs.worlds.WorldConsts.{InodeConsts}
 use Rattle.task_core.specs.worlds.World.{WorldValue}
 use Rattle.task_core.specs.worlds.WorldRuns.{moment_in, scene_in}
 use Rattle.task_core.specs.starts.Start.{AreConstsOf, Begins}
@@ -75,7 +75,7 @@ module _ (blocks : List TaskBlock) (passes : List PassesValue) (tasks : List Tas
       (b.0, (b.1, (p.0, (p.1, new.each k t is b.0 b.1 p.0 p.1))))
 
   pub are_tasks : (consts : WorldConsts) → AreFirstPasses consts passes
-      → list_all (is_task (length consts.sites)) blocks ≡ true → AreTasks consts tasks
+      → list_all (is_task (length consts.each_inode)) blocks ≡ true → AreTasks consts tasks
   are_tasks consts first forms = record {
     each = λ k t is.
         let a = at k t is in
@@ -84,7 +84,7 @@ module _ (blocks : List TaskBlock) (passes : List PassesValue) (tasks : List Tas
         let given = first.each k own a.1.1.1.0 in record {
           number = n.number;
           task = n.task consts given.0 given.1
-              (task_fits (length consts.sites) blocks forms k a.0 a.1.0);
+              (task_fits (length consts.each_inode) blocks forms k a.0 a.1.0);
         };
   }
 
@@ -122,11 +122,11 @@ started_is s kept p parts world passes tasks count count_is is begins first new 
     let blocks = p.tasks.items in
     let even : length passes ≡ length blocks = first.count ∙ is.tasks ∙ count_is in
     let programs = programs_are blocks passes tasks new even in
-    let sites : length world.consts.sites ≡ length s.files =
-    sym (length-map world.consts.sites (λ (x : Site). (x.path, x.birth)))
+    let each_inode : length world.consts.each_inode ≡ length s.files =
+    sym (length-map world.consts.each_inode (λ (x : InodeConsts). (x.path, x.birth)))
     ∙ ap length (is.files ∙ parts.inodes) ∙ length-map s.files file_of in
-    let forms : list_all (is_task (length world.consts.sites)) blocks ≡ true =
-    (λ i. list_all (is_task (sites i)) (parts.tasks i)) ∙ kept.tasks.forms in record {
+    let forms : list_all (is_task (length world.consts.each_inode)) blocks ≡ true =
+    (λ i. list_all (is_task (each_inode i)) (parts.tasks i)) ∙ kept.tasks.forms in record {
       scene = λ for_files. scene_is s p world.consts count (programs_of tasks) for_files parts is
           (programs ∙ ap (map program_of) parts.tasks);
       start = λ i. record {

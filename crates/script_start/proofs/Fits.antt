@@ -18,7 +18,7 @@ use Rattle.script_text.specs.declared.blocks.TaskBlock.{TaskBlock}
 use Rattle.script_text.proofs.Holding.{both_true, left_true, right_true}
 use Rattle.script_text.proofs.about_calls.Ranges.{line_call_is}
 use Rattle.task_core.specs.laws_of_progress.NextSteps.{IsFit}
-use Rattle.task_core.specs.laws_of_progress.Stations.{IsWithin}
+use Rattle.task_core.specs.laws_of_progress.ScriptFiles.{IsWithin}
 use Rattle.task_core.specs.starts.Started as started
 use Rattle.script_scene.specs.Scene.{file_of, fs_of}
 use Rattle.script_scene.proofs.Paths.{measured_path}

@@ -21,14 +21,14 @@ pub new_is : {E : Type 0} (r : Result Tasked E) (n : ℕ) (block : TaskBlock) (c
     → IfOk r (λ t. t.mind.program ≡ record { cred = block.cred; calls = calls })
     → IfOk r (λ t. t.mind.thought ≡ start)
     → IfOk r (λ t. (consts : WorldConsts) → ArePassesOf consts n passes → AreUnused passes
-    → AreCallsOf (length consts.sites) calls → IsTask consts t)
+    → AreCallsOf (length consts.each_inode) calls → IsTask consts t)
     → IfOk r (IsNew n block passes)
 new_is (Ok t) n block calls passes same number program thought task = record {
   number = number;
   program = program ∙ (λ i. record { cred = block.cred; calls = same i });
   thought = thought;
   task = λ consts own unused fit. task consts own unused
-      (subst (AreCallsOf (length consts.sites)) (sym same) fit);
+      (subst (AreCallsOf (length consts.each_inode)) (sym same) fit);
 }
 new_is (Err e) n block calls passes same number program thought task = tt
 

@@ -12,7 +12,7 @@ pub record IsNew (n : ℕ) (block : TaskBlock) (passes : PassesValue) (t : Taske
   pub program : t.mind.program ≡ program_of block
   pub thought : t.mind.thought ≡ start
   pub task : (consts : WorldConsts) → ArePassesOf consts n passes → AreUnused passes
-      → AreCallsOf (length consts.sites) block.calls → IsTask consts t
+      → AreCallsOf (length consts.each_inode) block.calls → IsTask consts t
 
 -- one new task for each block, in order
 pub record AreNew (blocks : List TaskBlock) (passes : List PassesValue) (tasks : List Tasked)

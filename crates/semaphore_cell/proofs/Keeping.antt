@@ -6,7 +6,7 @@ use Rattle.std.proofs.lemmas.List.Elements.{All-nil, All-push}
 use Rattle.std.specs.Prelude.{replicate}
 use Rattle.inode_events.specs.meta.declared.step.Who.{Who}
 use Rattle.inode_events.specs.Callers.{caller_in, caller_of}
-use Rattle.inode_events.specs.Past.{past, past_more}
+use Rattle.inode_events.specs.NewestFirst.{newest_first, past_more}
 use Rattle.inode_events.specs.Semaphores.{LegalSemaphores, is_post, left, posts, semaphore_says, waits}
 use Rattle.inode_events.specs.declared.deed.Deed.{Deed}
 use Rattle.inode_events.specs.declared.deed.Deed.TheVariants as deed
@@ -29,8 +29,8 @@ posts_within sem (e ∷ before) = at (is_post sem e.deed) (posts_within sem befo
   at false within = omega arith
 
 -- reversing a journal keeps its length
-pub past_length : (journal : List Event) → length (past journal) ≡ length journal
-unfolding past
+pub past_length : (journal : List Event) → length (newest_first journal) ≡ length journal
+unfolding newest_first
 past_length journal = length-reverse journal
 
 -- a post adds one to its semaphore and leaves the others
@@ -73,17 +73,17 @@ counts_set counts f g change at new within small before after is s below = by (c
 
 -- the invariant holds after one more event, by the pass of its task
 pub IsSemaphores-more : (c d : Inside) (w : Who) (deed : Deed) (number : ℕ) → IsSemaphores c
-    → semaphore_says (past c.journal.list) deed ≡ Some told.Done → caller_in w.task deed
+    → semaphore_says (newest_first c.journal.list) deed ≡ Some told.Done → caller_in w.task deed
     ≡ w.task + 1
     → number ≡ w.task + 1 → number < d.journal.callers
-    → ((s : ℕ) → s < 256 → get_or d.left s 0 ≡ left s (done w deed ∷ past c.journal.list))
+    → ((s : ℕ) → s < 256 → get_or d.left s 0 ≡ left s (done w deed ∷ newest_first c.journal.list))
     → d.journal.list ≡ c.journal.list ++ done w deed ∷ []
     → d.journal.numbers ≡ c.journal.numbers ++ number ∷ []
     → d.journal.name ≡ c.journal.name → d.journal.callers ≡ c.journal.callers → d.own ≡ c.own
     → IsSemaphores d
 IsSemaphores-more c d w deed number kept says caller is below counts list numbers name callers own =
-    let newest : past d.journal.list ≡ done w deed ∷ past c.journal.list =
-    ap past list ∙ past_more c.journal.list (done w deed) in
+    let newest : newest_first d.journal.list ≡ done w deed ∷ newest_first c.journal.list =
+    ap newest_first list ∙ past_more c.journal.list (done w deed) in
     let signed : All (λ e. (0 < caller_of e) × (caller_of e < d.journal.callers)) c.journal.list =
     subst (λ (n : ℕ). All (λ e. (0 < caller_of e) × (caller_of e < n)) c.journal.list) (sym callers)
     kept.signed in
@@ -112,9 +112,9 @@ IsSemaphores-more c d w deed number kept says caller is below counts list number
 pub IsSemaphores-start : (c : Inside) → c.left ≡ replicate 256 0 → c.journal.list ≡ []
     → c.journal.numbers ≡ [] → c.own.name ≡ c.journal.name → c.own.number ≡ 0 → c.own.mine ≡ []
     → IsSemaphores c
-unfolding past
+unfolding newest_first
 IsSemaphores-start c zeros list numbers name number mine =
-    let none : past c.journal.list ≡ [] = ap past list in
+    let none : newest_first c.journal.list ≡ [] = ap newest_first list in
     record {
       counts = λ s small. ap (λ (l : List ℕ). get_or l s 0) zeros ∙ get_or-replicate 256 s 0 0 small
           ∙ ap (left s) (sym none);

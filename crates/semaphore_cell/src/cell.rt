@@ -5,7 +5,7 @@ ghost use Rattle.grow_list.specs.Others.{HasOthers};
 ghost use Rattle.grow_list.specs.Shown.{IsSameList, HasItsOwn, fresh};
 ghost use Rattle.inode_events.specs.Asked.{entered, made};
 ghost use Rattle.inode_events.specs.Callers.{caller_of};
-ghost use Rattle.inode_events.specs.Past.{past};
+ghost use Rattle.inode_events.specs.NewestFirst.{newest_first};
 ghost use Rattle.inode_events.specs.Semaphores.{LegalSemaphores, left, semaphore_says};
 
 use grow_list::{Grow, Pass};
@@ -81,17 +81,18 @@ impl SemaphoreCell {
         requires number { pass.old.number ≡ who.task + 1 }
 
         ensures says { option_map (λ _. Told.Done) result
-            ≡ semaphore_says (past self.old.list) deed }
+            ≡ semaphore_says (newest_first self.old.list) deed }
         ensures place { IfSome result (λ place. place ≡ length self.old.list) }
         ensures list { self.new.list
-            ≡ self.old.list ++ made who deed (semaphore_says (past self.old.list) deed) }
+            ≡ self.old.list ++ made who deed (semaphore_says (newest_first self.old.list) deed) }
         ensures kept { (self.new.name ≡ self.old.name) × (self.new.callers ≡ self.old.callers) }
         ensures spare { self.old.spare ≤ self.new.spare + 1 }
 
         ensures before { IsPrefix pass.old.seen self.old.list }
         ensures seen { pass.new.seen ≡ self.new.list }
         ensures mine { pass.new.mine ≡ pass.old.mine
-            ++ entered (length self.old.list) who deed (semaphore_says (past self.old.list) deed) }
+            ++ entered (length self.old.list) who deed
+            (semaphore_says (newest_first self.old.list) deed) }
         ensures own { HasItsOwn self.new pass.new }
         ensures below { All (λ x. x.0 < length self.new.list) pass.new.mine }
         ensures number { pass.new.number < self.new.callers }
@@ -135,7 +136,7 @@ impl SemaphoreCell {
 
     /// The value of the semaphore: its posts minus its waits.
     pub fn left(&self, sem: u8) -> u64
-        ensures { result ≡ left sem (past self.now.list) }
+        ensures { result ≡ left sem (newest_first self.now.list) }
     {
         self.left[sem as usize]
     }
@@ -155,7 +156,7 @@ impl SemaphoreCell {
         ensures number { pass.new.number < self.new.callers }
         ensures numbers { self.new.numbers ≡ map caller_of self.new.list }
         ensures same_pass { (pass.new.name ≡ pass.old.name) × (pass.new.number ≡ pass.old.number) }
-        ensures legal { LegalSemaphores (past self.new.list) }
+        ensures legal { LegalSemaphores (newest_first self.new.list) }
         ensures signed { All (λ e. (0 < caller_of e) × (caller_of e < self.new.callers))
             self.new.list }
     {
@@ -173,7 +174,7 @@ impl SemaphoreCell {
         ensures own { All (λ p. HasItsOwn self p) passes.items }
         ensures places { (k : ℕ) → k < length self.list
             → count_by (λ p. has_place k p.mine) passes.items ≡ 1 }
-        ensures legal { LegalSemaphores (past self.list) }
+        ensures legal { LegalSemaphores (newest_first self.list) }
         ensures signed { All (λ e. (0 < caller_of e) × (caller_of e < self.callers)) self.list }
     {
         let SemaphoreCell {

@@ -15,7 +15,7 @@ use Rattle.inode_events.specs.policy.declared.access.Action.{Action}
 use Rattle.inode_events.specs.Admission.{granted_file}
 use Rattle.inode_events.specs.Callers.{caller_in, caller_of}
 use Rattle.inode_events.specs.Files.{is_writer}
-use Rattle.inode_events.specs.Past.{past}
+use Rattle.inode_events.specs.NewestFirst.{newest_first}
 use Rattle.inode_events.specs.declared.deed.Deed.{Deed}
 use Rattle.inode_events.specs.declared.deed.Deed.TheVariants as deed
 use Rattle.inode_events.specs.declared.deed.How.{How}
@@ -412,9 +412,9 @@ denied_by scene run n p t i k journal who d g file cause r s at here caller gran
               (subst (λ (u : Thought). Answers before.mind.at (reply.Denied cause) u) stands later)
 
 -- an event of the past is at some place of the journal
-pub place_of : (journal later p : List Event) (e : Event) → past journal ≡ later ++ e ∷ p
+pub place_of : (journal later p : List Event) (e : Event) → newest_first journal ≡ later ++ e ∷ p
     → (k : ℕ) × (slice_get journal k ≡ Some e)
-unfolding past
+unfolding newest_first
 place_of journal later p e is = (
   length (reverse p),
   ap (λ (l : List Event). slice_get l (length (reverse p)))

@@ -31,7 +31,7 @@ use Rattle.inode_events.specs.declared.told.Told.{Told}
 use Rattle.inode_events.specs.declared.told.Told.TheVariants as told
 use Rattle.journal_laws.proofs.Covering.{graphic_shown, measured_named, short_shown}
 use Rattle.call_steps.specs.declared.ending.Ending.{Ending}
-use Rattle.run_model.specs.Scene.{Scene, Station}
+use Rattle.run_model.specs.Scene.{Scene, ScriptFile}
 use Rattle.run_model.specs.Served.{Run}
 use Rattle.run_model.specs.Shown.{IsShown, journals_of}
 use Rattle.shown_laws.specs.Places.{HasForms}
@@ -193,9 +193,9 @@ list_holds P boot list js merged first each = λ place d below. elim (cases_Bool
       subst P (sym (get_or_from_slice_get list place h.entry d h.at)) h.holds
 ]
 
--- what holds of the paths of the stations holds of those of the journals
-journals_each : (scene : Scene) (ss : List Station) (js : List (List Event))
-    → All (λ (s : Station). IsMeasuredPath Ima s.path) ss
+-- what holds of the paths of the files holds of those of the journals
+journals_each : (scene : Scene) (ss : List ScriptFile) (js : List (List Event))
+    → All (λ (s : ScriptFile). IsMeasuredPath Ima s.path) ss
     → All (λ (j : Journal). (d : Deed) (t : Told) (p : List Event)
     → IfAdded IsNamed (adds j.inode d t p)) (journals_of scene ss js)
 journals_each scene [] js h = All-nil _
@@ -203,13 +203,13 @@ journals_each scene (s ∷ ss) [] h = All-nil _
 journals_each scene (s ∷ ss) (j ∷ js) h =
     All-cons (λ (k : Journal). (d : Deed) (t : Told) (p : List Event)
     → IfAdded IsNamed (adds k.inode d t p)) _ (journals_of scene ss js)
-    (λ d t p. added_named _ d t p (All-head (λ (x : Station). IsMeasuredPath Ima x.path) s ss h))
-    (journals_each scene ss js (All-tail (λ (x : Station). IsMeasuredPath Ima x.path) s ss h))
+    (λ d t p. added_named _ d t p (All-head (λ (x : ScriptFile). IsMeasuredPath Ima x.path) s ss h))
+    (journals_each scene ss js (All-tail (λ (x : ScriptFile). IsMeasuredPath Ima x.path) s ss h))
 
 -- the entries of a shown run's list are named
 pub list_named : (scene : Scene) (ending : Ending) (run : Run) → HasForms scene
     → IsShown scene ending run → All IsNamed run.list
 list_named scene ending run forms shown =
-    list_holds IsNamed scene.boot run.list (journals_of scene scene.stations run.journals)
+    list_holds IsNamed scene.boot run.list (journals_of scene scene.script_files run.journals)
     shown.merged (entry_named scene.boot forms.boot)
-    (journals_each scene scene.stations run.journals forms.paths)
+    (journals_each scene scene.script_files run.journals forms.paths)

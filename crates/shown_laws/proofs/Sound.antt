@@ -10,7 +10,7 @@ use Rattle.inode_events.specs.Legal.{EachFollows, IsBorn, Legal}
 use Rattle.inode_events.specs.Listing.{IsListed}
 use Rattle.inode_events.specs.Merged.{Journal}
 use Rattle.inode_events.specs.Integrity.{attributes, label, label_in, labelled_with}
-use Rattle.inode_events.specs.Past.{past}
+use Rattle.inode_events.specs.NewestFirst.{newest_first}
 use Rattle.inode_events.specs.State.{content, metadata}
 use Rattle.inode_events.specs.declared.deed.Deed.TheVariants as deed
 use Rattle.inode_events.specs.declared.told.Told.TheVariants as told
@@ -28,7 +28,7 @@ use Rattle.journal_laws.specs.Laws.{labelled_close}
 use Rattle.journal_laws.proofs.Fresh.{fresh_at}
 use Rattle.journal_laws.proofs.FreshSteps.{freshness_lem}
 use Rattle.call_steps.specs.declared.ending.Ending.{Ending}
-use Rattle.run_model.specs.Scene.{Scene, Station, inode_of}
+use Rattle.run_model.specs.Scene.{Scene, ScriptFile, inode_of}
 use Rattle.run_model.specs.Served.{Run}
 use Rattle.run_model.specs.Shown.{IsShown, journals_of}
 use Rattle.shown_laws.proofs.Denied.{denied_there}
@@ -37,21 +37,27 @@ use Rattle.shown_laws.specs.Laws.{ShownIsAdmitted, ShownIsCovered, ShownIsFresh,
 use Rattle.shown_laws.specs.Places.{HasForms, Stood}
 
 -- a property of all journals of the scene holds of this one
-pub journal_has : (P : Journal → Type 0) (scene : Scene) (stations : List Station)
-    (journals : List (List Event)) (n : ℕ) (s : Station) (j : List Event)
-    → All P (journals_of scene stations journals) → slice_get stations n ≡ Some s
-    → slice_get journals n ≡ Some j → P (record { inode = inode_of scene s; events = past j })
+pub journal_has : (P : Journal → Type 0) (scene : Scene) (script_files : List ScriptFile)
+    (journals : List (List Event)) (n : ℕ) (s : ScriptFile) (j : List Event)
+    → All P (journals_of scene script_files journals) → slice_get script_files n ≡ Some s
+    → slice_get journals n ≡ Some j → P (record {
+      inode = inode_of scene s;
+      events = newest_first j;
+    })
 journal_has P scene [] journals n s j all e f = absurd (cc)
-journal_has P scene (x ∷ stations) [] n s j all e f = absurd (cc)
-journal_has P scene (x ∷ stations) (y ∷ journals) zero s j all e f =
+journal_has P scene (x ∷ script_files) [] n s j all e f = absurd (cc)
+journal_has P scene (x ∷ script_files) (y ∷ journals) zero s j all e f =
     subst (λ (z : Journal). P z)
-    (λ i. record { inode = inode_of scene (same_Some x s e i); events = past (same_Some y j f i) })
-    (All-head P (record { inode = inode_of scene x; events = past y })
-    (journals_of scene stations journals) all)
-journal_has P scene (x ∷ stations) (y ∷ journals) (suc n) s j all e f =
-    journal_has P scene stations journals n s j
-    (All-tail P (record { inode = inode_of scene x; events = past y })
-    (journals_of scene stations journals) all) e f
+    (λ i. record {
+      inode = inode_of scene (same_Some x s e i);
+      events = newest_first (same_Some y j f i);
+    })
+    (All-head P (record { inode = inode_of scene x; events = newest_first y })
+    (journals_of scene script_files journals) all)
+journal_has P scene (x ∷ script_files) (y ∷ journals) (suc n) s j all e f =
+    journal_has P scene script_files journals n s j
+    (All-tail P (record { inode = inode_of scene x; events = newest_first y })
+    (journals_of scene script_files journals) all) e f
 
 -- the events before any place of a shown run's journal are legal
 pub legal_there : (scene : Scene) (ending : Ending) (run : Run) (inode : Inode) (p : List Event)
@@ -59,9 +65,9 @@ pub legal_there : (scene : Scene) (ending : Ending) (run : Run) (inode : Inode) 
 legal_there scene ending run inode p shown s = (
   s.born,
   follows_at inode s.later p (subst (λ (l : List Event). EachFollows inode l) s.is
-      (subst (λ (i : Inode). EachFollows i (past s.journal)) s.inode_is
-      (journal_has (λ (j : Journal). Legal j.inode j.events) scene scene.stations run.journals
-      s.number s.station s.journal shown.legal s.at s.journal_at).1)),
+      (subst (λ (i : Inode). EachFollows i (newest_first s.journal)) s.inode_is
+      (journal_has (λ (j : Journal). Legal j.inode j.events) scene scene.script_files run.journals
+      s.number s.script_file s.journal shown.legal s.at s.journal_at).1)),
 )
 
 pub listed_there : (scene : Scene) (ending : Ending) (run : Run) (inode : Inode) (p : List Event)
@@ -69,20 +75,20 @@ pub listed_there : (scene : Scene) (ending : Ending) (run : Run) (inode : Inode)
 listed_there scene ending run inode p shown s =
     listed_before inode run.list s.later p
     (subst (λ (l : List Event). IsListed inode run.list l) s.is
-    (subst (λ (i : Inode). IsListed i run.list (past s.journal)) s.inode_is
-    (journal_has (λ (j : Journal). IsListed j.inode run.list j.events) scene scene.stations
-    run.journals s.number s.station s.journal shown.merged.listed s.at s.journal_at)))
+    (subst (λ (i : Inode). IsListed i run.list (newest_first s.journal)) s.inode_is
+    (journal_has (λ (j : Journal). IsListed j.inode run.list j.events) scene scene.script_files
+    run.journals s.number s.script_file s.journal shown.merged.listed s.at s.journal_at)))
 
 -- the path of the inode is one of the scene's, and so has their form
 pub path_there : (scene : Scene) (run : Run) (inode : Inode) (p : List Event)
     → HasForms scene → Stood scene run inode p → IsMeasuredPath Ima inode.path
 path_there scene run inode p forms s =
     subst (λ (i : Inode). IsMeasuredPath Ima i.path) s.inode_is
-    (All-contains (λ (x : Station). IsMeasuredPath Ima x.path) scene.stations s.station
+    (All-contains (λ (x : ScriptFile). IsMeasuredPath Ima x.path) scene.script_files s.script_file
     forms.paths (
       s.number,
-      slice_get_within scene.stations s.number s.station s.at,
-      get_or_from_slice_get scene.stations s.number s.station s.station s.at,
+      slice_get_within scene.script_files s.number s.script_file s.at,
+      get_or_from_slice_get scene.script_files s.number s.script_file s.script_file s.at,
     ))
 
 -- ---- the laws

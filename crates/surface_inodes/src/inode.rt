@@ -6,7 +6,7 @@
 ghost use Rattle.std.specs.Prelude.{◌≡◌, ◌+◌, ◌-◌, ◌<◌, ◌≤◌, ◌^◌, [], Some, false, true, length};
 ghost use Rattle.ima_top.specs.events.Checks.{last_check, slot_of};
 ghost use Rattle.ima_top.specs.events.Files.{can_read, held, holds, is_writer};
-ghost use Rattle.ima_top.specs.events.Past.{past};
+ghost use Rattle.ima_top.specs.events.NewestFirst.{newest_first};
 ghost use Rattle.ima_top.specs.events.Stage.{Asked, CloseCollected, CloseCollecting, Collected, Collecting, Settled, may_check, stage};
 ghost use Rattle.ima_top.specs.events.meta.declared.measurement.Template.TheVariants.{Ima};
 ghost use Rattle.ima_top.specs.events.pages.Content.{most_bytes};
@@ -90,8 +90,8 @@ pub fn check(
     requires name { pass.old.name ≡ cell.old.journal }
     requires number { pass.old.number ≡ who.task + 1 }
     requires book { cell.old.book ≡ book.old.name }
-    requires counted { counter file (past cell.old.list) ≡ Some pass.old.number }
-    requires due { may_check (stage cell.old.inode file (past cell.old.list)) ≡ true }
+    requires counted { counter file (newest_first cell.old.list) ≡ Some pass.old.number }
+    requires due { may_check (stage cell.old.inode file (newest_first cell.old.list)) ≡ true }
 {
     inode_cell::InodeCell::check(cell, pass, who, file, rules, cred, place, func, mask, book)
 }
@@ -108,10 +108,10 @@ pub fn take(
     requires name { pass.old.name ≡ cell.old.journal }
     requires number { pass.old.number ≡ who.task + 1 }
     requires book { cell.old.book ≡ book.old.name }
-    requires counted { counter file (past cell.old.list) ≡ Some pass.old.number }
-    requires asked { stage cell.old.inode file (past cell.old.list) ≡ Asked }
-    requires slot { slot ≡ slot_of (last_check file (past cell.old.list)).func }
-    requires action { action.now ≡ (last_check file (past cell.old.list)).action }
+    requires counted { counter file (newest_first cell.old.list) ≡ Some pass.old.number }
+    requires asked { stage cell.old.inode file (newest_first cell.old.list) ≡ Asked }
+    requires slot { slot ≡ slot_of (last_check file (newest_first cell.old.list)).func }
+    requires action { action.now ≡ (last_check file (newest_first cell.old.list)).action }
 {
     inode_cell::InodeCell::take(cell, pass, who, file, slot, action, book)
 }
@@ -124,8 +124,8 @@ pub fn chunk(
 ) -> Result<(inode_cell::Piece, inode_pages::Page), inode_cell::OutOfMemory>
     requires name { pass.old.name ≡ cell.old.journal }
     requires number { pass.old.number ≡ who.task + 1 }
-    requires counted { counter file (past cell.old.list) ≡ Some pass.old.number }
-    requires collecting { stage cell.old.inode file (past cell.old.list) ≡ Collecting }
+    requires counted { counter file (newest_first cell.old.list) ≡ Some pass.old.number }
+    requires collecting { stage cell.old.inode file (newest_first cell.old.list) ≡ Collecting }
 {
     inode_cell::InodeCell::chunk(cell, pass, who, file)
 }
@@ -141,9 +141,9 @@ pub fn finish(
     requires name { pass.old.name ≡ cell.old.journal }
     requires number { pass.old.number ≡ who.task + 1 }
     requires book { cell.old.book ≡ book.old.name }
-    requires counted { counter file (past cell.old.list) ≡ Some pass.old.number }
-    requires collected { stage cell.old.inode file (past cell.old.list) ≡ Collected }
-    requires sums { HasSums cell.old.inode (past cell.old.list) sums }
+    requires counted { counter file (newest_first cell.old.list) ≡ Some pass.old.number }
+    requires collected { stage cell.old.inode file (newest_first cell.old.list) ≡ Collected }
+    requires sums { HasSums cell.old.inode (newest_first cell.old.list) sums }
 {
     inode_cell::InodeCell::finish(cell, pass, who, file, sums, book)
 }
@@ -158,9 +158,9 @@ pub fn read(
 ) -> Result<inode_cell::Got, inode_cell::OutOfMemory>
     requires name { pass.old.name ≡ cell.old.journal }
     requires number { pass.old.number ≡ who.task + 1 }
-    requires counted { counter file (past cell.old.list) ≡ Some pass.old.number }
-    requires settled { stage cell.old.inode file (past cell.old.list) ≡ Settled }
-    requires how { holds can_read (held file (past cell.old.list)) ≡ true }
+    requires counted { counter file (newest_first cell.old.list) ≡ Some pass.old.number }
+    requires settled { stage cell.old.inode file (newest_first cell.old.list) ≡ Settled }
+    requires how { holds can_read (held file (newest_first cell.old.list)) ≡ true }
 {
     inode_cell::InodeCell::read(cell, pass, who, file, from, len)
 }
@@ -175,9 +175,9 @@ pub fn write(
 ) -> Result<inode_cell::Wrote, inode_cell::OutOfMemory>
     requires name { pass.old.name ≡ cell.old.journal }
     requires number { pass.old.number ≡ who.task + 1 }
-    requires counted { counter file (past cell.old.list) ≡ Some pass.old.number }
-    requires settled { stage cell.old.inode file (past cell.old.list) ≡ Settled }
-    requires how { holds is_writer (held file (past cell.old.list)) ≡ true }
+    requires counted { counter file (newest_first cell.old.list) ≡ Some pass.old.number }
+    requires settled { stage cell.old.inode file (newest_first cell.old.list) ≡ Settled }
+    requires how { holds is_writer (held file (newest_first cell.old.list)) ≡ true }
     requires bytes { 0 < length b.now }
 {
     inode_cell::InodeCell::write(cell, pass, who, file, from, b)
@@ -192,9 +192,9 @@ pub fn trunc(
 ) -> Result<inode_cell::Wrote, inode_cell::OutOfMemory>
     requires name { pass.old.name ≡ cell.old.journal }
     requires number { pass.old.number ≡ who.task + 1 }
-    requires counted { counter file (past cell.old.list) ≡ Some pass.old.number }
-    requires settled { stage cell.old.inode file (past cell.old.list) ≡ Settled }
-    requires how { holds is_writer (held file (past cell.old.list)) ≡ true }
+    requires counted { counter file (newest_first cell.old.list) ≡ Some pass.old.number }
+    requires settled { stage cell.old.inode file (newest_first cell.old.list) ≡ Settled }
+    requires how { holds is_writer (held file (newest_first cell.old.list)) ≡ true }
 {
     inode_cell::InodeCell::trunc(cell, pass, who, file, len)
 }
@@ -233,9 +233,9 @@ pub fn close_read(
 ) -> Result<(), inode_cell::OutOfMemory>
     requires name { pass.old.name ≡ cell.old.journal }
     requires number { pass.old.number ≡ who.task + 1 }
-    requires counted { counter file (past cell.old.list) ≡ Some pass.old.number }
-    requires settled { stage cell.old.inode file (past cell.old.list) ≡ Settled }
-    requires how { holds is_writer (held file (past cell.old.list)) ≡ false }
+    requires counted { counter file (newest_first cell.old.list) ≡ Some pass.old.number }
+    requires settled { stage cell.old.inode file (newest_first cell.old.list) ≡ Settled }
+    requires how { holds is_writer (held file (newest_first cell.old.list)) ≡ false }
 {
     inode_cell::InodeCell::close_read(cell, pass, who, file)
 }
@@ -248,9 +248,9 @@ pub fn close_take(
 ) -> Result<inode_cell::CloseTaken, inode_cell::OutOfMemory>
     requires name { pass.old.name ≡ cell.old.journal }
     requires number { pass.old.number ≡ who.task + 1 }
-    requires counted { counter file (past cell.old.list) ≡ Some pass.old.number }
-    requires settled { stage cell.old.inode file (past cell.old.list) ≡ Settled }
-    requires how { holds is_writer (held file (past cell.old.list)) ≡ true }
+    requires counted { counter file (newest_first cell.old.list) ≡ Some pass.old.number }
+    requires settled { stage cell.old.inode file (newest_first cell.old.list) ≡ Settled }
+    requires how { holds is_writer (held file (newest_first cell.old.list)) ≡ true }
 {
     inode_cell::InodeCell::close_take(cell, pass, who, file)
 }
@@ -263,8 +263,8 @@ pub fn close_chunk(
 ) -> Result<(inode_cell::Piece, inode_pages::Page), inode_cell::OutOfMemory>
     requires name { pass.old.name ≡ cell.old.journal }
     requires number { pass.old.number ≡ who.task + 1 }
-    requires counted { counter file (past cell.old.list) ≡ Some pass.old.number }
-    requires collecting { stage cell.old.inode file (past cell.old.list) ≡ CloseCollecting }
+    requires counted { counter file (newest_first cell.old.list) ≡ Some pass.old.number }
+    requires collecting { stage cell.old.inode file (newest_first cell.old.list) ≡ CloseCollecting }
 {
     inode_cell::InodeCell::close_chunk(cell, pass, who, file)
 }
@@ -278,9 +278,9 @@ pub fn close_finish(
 ) -> Result<bool, inode_cell::OutOfMemory>
     requires name { pass.old.name ≡ cell.old.journal }
     requires number { pass.old.number ≡ who.task + 1 }
-    requires counted { counter file (past cell.old.list) ≡ Some pass.old.number }
-    requires collected { stage cell.old.inode file (past cell.old.list) ≡ CloseCollected }
-    requires sums { HasSums cell.old.inode (past cell.old.list) sums }
+    requires counted { counter file (newest_first cell.old.list) ≡ Some pass.old.number }
+    requires collected { stage cell.old.inode file (newest_first cell.old.list) ≡ CloseCollected }
+    requires sums { HasSums cell.old.inode (newest_first cell.old.list) sums }
 {
     inode_cell::InodeCell::close_finish(cell, pass, who, file, sums)
 }

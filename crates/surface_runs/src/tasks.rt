@@ -73,7 +73,7 @@ pub fn live_hold<N: task_core::Name, R: Wait, F: FnOnce()>(
     inode: u32,
     f: F,
 )
-    requires inode { inode < length N.consts.sites }
+    requires inode { inode < length N.consts.each_inode }
     requires call { F.IsAlwaysCallable f }
 {
     task_core::Live::hold(live, rt, inode, f)

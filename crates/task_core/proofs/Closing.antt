@@ -6,7 +6,7 @@ use Rattle.std.proofs.lemmas.List.{length-map}
 use Rattle.grow_list.specs.Shown.{Grown}
 use Rattle.measure_book.specs.Replay.{banks_of}
 use Rattle.ima_templates.specs.declared.entry.Entry.{Entry}
-use Rattle.inode_events.specs.Past.{past}
+use Rattle.inode_events.specs.NewestFirst.{newest_first}
 use Rattle.inode_events.specs.Semaphores.{left}
 use Rattle.inode_events.specs.declared.settings.Settings.{Settings}
 use Rattle.inode_events.specs.declared.told.Event.{Event}
@@ -17,8 +17,8 @@ use Rattle.run_model.specs.Turns.{State}
 use Rattle.world_model.specs.WorldConsts.{WorldConsts, scene_of}
 use Rattle.world_model.specs.Runs.{AreTasks, moment_of, programs_of}
 use Rattle.world_model.specs.Tasks.{ArePassesOf, PassesValue, Tasked}
-use Rattle.world_model.specs.World.{AreRulesOf, AreSignalsOf, IsBookOf, StationValue, site_of}
-use Rattle.world_close.specs.Closed.{AreStations, WorldClosed, ended_station}
+use Rattle.world_model.specs.World.{AreRulesOf, AreSignalsOf, IsBookOf, WorldInodeValue, inode_consts_of}
+use Rattle.world_close.specs.Closed.{AreWorldInodes, WorldClosed, ended_world_inode}
 use Rattle.world_close.specs.Finished.{HaveMade}
 use Rattle.world_close.proofs.Gets.{get_map}
 use Rattle.world_locks.proofs.about_acts.Looked.{force_count}
@@ -27,17 +27,17 @@ use Rattle.world_close.proofs.Ending.{closed_ended}
 use Rattle.world_close.specs.Leaves.{are_stuck, left_by, may_append, task_left}
 use Rattle.world_close.specs.Settled.{HasEnded}
 
-module _ (settings : Settings) (stations : List StationValue) (supers : List Super)
+module _ (settings : Settings) (world_inodes : List WorldInodeValue) (supers : List Super)
     (book : Grown Entry) (sems : Grown Event) (rules : PolicyValue) (count : ℕ)
     (consts : WorldConsts)
-    (is : consts_by settings stations supers book sems rules count ≡ consts) where
+    (is : consts_by settings world_inodes supers book sems rules count ≡ consts) where
   -- the parts belong to the constants
-  module _ (parts : AreParts (consts_by settings stations supers book sems rules count) stations
-      book sems rules) where
-    pub are_stations : AreStations consts stations
-    are_stations = subst (λ (f : WorldConsts). AreStations f stations) is (record {
-      even = sym (length-map stations site_of);
-      each = parts.stations;
+  module _ (parts : AreParts (consts_by settings world_inodes supers book sems rules count)
+      world_inodes book sems rules) where
+    pub are_world_inodes : AreWorldInodes consts world_inodes
+    are_world_inodes = subst (λ (f : WorldConsts). AreWorldInodes f world_inodes) is (record {
+      even = sym (length-map world_inodes inode_consts_of);
+      each = parts.world_inodes;
     })
 
     pub is_book : IsBookOf consts book
@@ -51,13 +51,13 @@ module _ (settings : Settings) (stations : List StationValue) (supers : List Sup
 
     -- the final state of the closed lists and the tasks is the final state of the run
     pub ended_by : (tasks : List Tasked) (state : State) (e : EndedValue)
-        → state_by stations book sems rules ≡ state → AreTasks consts tasks
+        → state_by world_inodes book sems rules ≡ state → AreTasks consts tasks
         → length tasks ≡ consts.tasks → HaveMade consts state tasks
-        → WorldClosed consts stations book.list sems.list rules.appended.list
+        → WorldClosed consts world_inodes book.list sems.list rules.appended.list
         (map (λ (t : Tasked). t.passes) tasks)
-        → e.inodes ≡ map ended_station stations → e.list ≡ book.list
+        → e.inodes ≡ map ended_world_inode world_inodes → e.list ≡ book.list
         → e.banks ≡ banks_of book.list → e.tasks ≡ map task_left tasks
-        → e.stuck ≡ are_stuck (λ sem. left sem (past sems.list)) tasks
+        → e.stuck ≡ are_stuck (λ sem. left sem (newest_first sems.list)) tasks
         → e.template ≡ settings.template → e.rules ≡ rules.appended.list
         → e.base ≡ length rules.base → e.grows ≡ list_any may_append tasks
         → HasEnded (scene_of consts (programs_of tasks)) (moment_of state tasks) e
@@ -65,8 +65,8 @@ module _ (settings : Settings) (stations : List StationValue) (supers : List Sup
         grows =
         subst (λ (x : State). HasEnded (scene_of consts (programs_of tasks))
         (moment_of x tasks) e) at
-        (closed_ended consts stations book.list sems.list rules.appended.list tasks e
-        are_stations of all
+        (closed_ended consts world_inodes book.list sems.list rules.appended.list tasks e
+        are_world_inodes of all
         (subst (λ (x : State). HaveMade consts x tasks) (sym at) made) closed
         ((λ i. record {
           inodes = inodes i;
@@ -78,7 +78,7 @@ module _ (settings : Settings) (stations : List StationValue) (supers : List Sup
           rules = own i;
           base = base i;
           grows = grows i;
-        }) ∙ ap (λ (f : WorldConsts). left_by f stations book.list sems.list rules.appended.list
+        }) ∙ ap (λ (f : WorldConsts). left_by f world_inodes book.list sems.list rules.appended.list
         tasks) is))
 
 -- the number of the script's rules is that of all in force less the appended ones

@@ -15,8 +15,8 @@ use Rattle.task_mind.specs.Value.{TaskValue}
 pub new_task : (number : ℕ) (mind : TaskValue) (passes : PassesValue) (cred : Cred)
     (calls : List Call) → mind.program ≡ record { cred = cred; calls = calls }
     → mind.thought ≡ start → mind.checked ≡ no_action → (consts : WorldConsts)
-    → ArePassesOf consts number passes → AreUnused passes → AreCallsOf (length consts.sites) calls
-    → IsTask consts (record {
+    → ArePassesOf consts number passes → AreUnused passes
+    → AreCallsOf (length consts.each_inode) calls → IsTask consts (record {
       number = number;
       mind = mind;
       hash_state = hash_state.Idle;
@@ -29,6 +29,6 @@ new_task number mind passes cred calls program thought checked consts own unused
     mind = mind;
     hash_state = hash_state.Idle;
     passes = passes;
-  }) (subst (λ (p : Program). AreCallsOf (length consts.sites) p.calls) (sym program) are) thought
-      checked own unused;
+  }) (subst (λ (p : Program). AreCallsOf (length consts.each_inode) p.calls) (sym program) are)
+      thought checked own unused;
 }

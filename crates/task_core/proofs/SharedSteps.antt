@@ -12,14 +12,14 @@ use Rattle.call_steps.specs.Steps.{given}
 use Rattle.policy_rules.specs.ActionValue.{ActionValue}
 use Rattle.policy_rules.specs.RuleValue.{RuleValue}
 use Rattle.run_model.specs.History.{Thought, hear, step_at, who_at}
-use Rattle.run_model.specs.Turns.{State, go, go_step}
+use Rattle.run_model.specs.Turns.{State, step_due, step_task}
 use Rattle.run_model.specs.declared.turn.Turn.{Turn}
 use Rattle.run_model.specs.declared.turn.Turn.TheVariants as turns
 use Rattle.task_core.proofs.Blocks.{check_blocks, deed_blocks, err_fails, no_answer, over_ends, signal_blocks, told_moves}
 use Rattle.task_core.proofs.Turns.{appends_fail, appends_turn, check_turn, does_turn, signals_turn}
-use Rattle.task_core.specs.Shared.{IsBlockedBy, IsBlockedOn, IsIdle, ReachesMet, StepsTo}
+use Rattle.task_core.specs.Shared.{IsBlockedBy, IsBlockedOn, IsIdle, StepsTo, TurnsToMet}
 use Rattle.world_locks.specs.acts.declared.listed.Checks.{Checks as Asked}
-use Rattle.world_model.specs.WorldConsts.{Site, WorldConsts, mode_in, scene_of}
+use Rattle.world_model.specs.WorldConsts.{InodeConsts, WorldConsts, mode_in, scene_of}
 use Rattle.world_model.specs.Tasks.{PassesValue, Tasked}
 use Rattle.world_model.specs.declared.hash_state.HashState.{HashState}
 use Rattle.world_locks.proofs.about_worlds.Blocking.{task_of_who}
@@ -27,18 +27,18 @@ use Rattle.world_locks.specs.worlds.Plays.{task_after, task_left}
 use Rattle.task_mind.specs.Value.{TaskValue}
 use Rattle.world_locks.proofs.about_acts.Sharing.{nothing_tells}
 use Rattle.world_locks.specs.acts.Acting.{told_in}
-use Rattle.world_locks.specs.acts.Turning.{Goes, Reaches, Stops, Tells, answer_of, reached_by, turned_to}
-use Rattle.world_locks.specs.acts.declared.answers.Answered.{Answered}
-use Rattle.world_locks.specs.acts.declared.answers.Reached.{Reached}
-use Rattle.world_locks.specs.acts.declared.answers.Reached.TheVariants as reached
+use Rattle.world_locks.specs.acts.Turning.{Goes, Stops, Tells, TurnsTo, answer_of, turn_result_of, turned_to}
+use Rattle.world_locks.specs.acts.declared.answers.StepResult.{StepResult}
+use Rattle.world_locks.specs.acts.declared.answers.TurnResult.{TurnResult}
+use Rattle.world_locks.specs.acts.declared.answers.TurnResult.TheVariants as turn_result
 use Rattle.world_locks.proofs.Idle.{check_idle, event_idle, signals_idle}
 use Rattle.world_locks.specs.Met.{AppendsMet, CheckMet, EventMet, SignalsMet, mines_of, state_seen}
 
 -- a turn without an answer had no outcome
-idle_told : {E : Type 0} (r : Result (Option Answered) E) (x : Result Reached E)
-    → x ≡ reached_by r → IsIdle x → told_in r ≡ None
-idle_told {E} r x is idle = at r (subst (λ (z : Result Reached E). IsIdle z) is idle) where
-  at : (y : Result (Option Answered) E) → IsIdle (reached_by y) → told_in y ≡ None
+idle_told : {E : Type 0} (r : Result (Option StepResult) E) (x : Result TurnResult E)
+    → x ≡ turn_result_of r → IsIdle x → told_in r ≡ None
+idle_told {E} r x is idle = at r (subst (λ (z : Result TurnResult E). IsIdle z) is idle) where
+  at : (y : Result (Option StepResult) E) → IsIdle (turn_result_of y) → told_in y ≡ None
   at (Ok (Some a)) i = absurd i
   at (Ok None) i = refl
   at (Err e) i = refl
@@ -54,10 +54,10 @@ module _ (consts : WorldConsts) (t : Tasked) (passes : PassesValue) (w : Who)
       ap (λ (x : Who). x.task) w_is ∙ task_of_who t.number t.mind.program t.mind.thought.mind
 
   -- a turn with a deed on an inode
-  pub does_met : {E : Type 0} (i : ℕ) (d : Deed) (g : HashState) (r : Result (Option Answered) E)
-      (x : Result Reached E) → asks ≡ Some (Does i d)
-      → EventMet consts i w d t.passes passes t.hash_state g r → x ≡ reached_by r
-      → ReachesMet consts t passes g x
+  pub does_met : {E : Type 0} (i : ℕ) (d : Deed) (g : HashState) (r : Result (Option StepResult) E)
+      (x : Result TurnResult E) → asks ≡ Some (Does i d)
+      → EventMet consts i w d t.passes passes t.hash_state g r → x ≡ turn_result_of r
+      → TurnsToMet consts t passes g x
   does_met i d g r x st m is = record {
     old = m.old;
     reaches = does_turn consts t m.old (state_seen passes) passes w w_is i d g r x st m.event m.told
@@ -66,17 +66,17 @@ module _ (consts : WorldConsts) (t : Tasked) (passes : PassesValue) (w : Who)
         (idle_told r x is idle);
     blocked = λ b. subst (λ (z : Option Step). IsBlockedBy consts t.number t.passes passes z)
         (sym st)
-        (subst (λ (n : ℕ). (s : Site) → slice_get consts.sites i ≡ Some s
+        (subst (λ (n : ℕ). (s : InodeConsts) → slice_get consts.each_inode i ≡ Some s
         → IsBlockedOn consts n i s d t.passes passes) w_task
         (deed_blocks consts t.passes passes w i d t.hash_state g r m (no_answer r (sym is ∙ b))));
   }
 
   -- a turn with a check
   pub checks_met : {E : Type 0} (i : ℕ) (asked : Asked) (cred : Cred)
-      (r : Result (Option Answered) E) (x : Result Reached E)
+      (r : Result (Option StepResult) E) (x : Result TurnResult E)
       → asks ≡ Some (Checks i asked.file asked.func asked.mask) → cred ≡ t.mind.program.cred
-      → CheckMet consts i w cred asked t.passes passes r → x ≡ reached_by r
-      → ReachesMet consts t passes t.hash_state x
+      → CheckMet consts i w cred asked t.passes passes r → x ≡ turn_result_of r
+      → TurnsToMet consts t passes t.hash_state x
   checks_met i asked cred r x st c m is = record {
     old = m.old;
     reaches = check_turn consts t m.old (state_seen passes) passes w w_is i asked cred r x st c
@@ -88,10 +88,10 @@ module _ (consts : WorldConsts) (t : Tasked) (passes : PassesValue) (w : Who)
   }
 
   -- a turn with a post or a wait
-  pub signals_met : {E : Type 0} (d : Deed) (r : Result (Option Answered) E)
-      (x : Result Reached E) → asks ≡ Some (Signals d)
-      → SignalsMet t.passes passes w d r → x ≡ reached_by r
-      → ReachesMet consts t passes t.hash_state x
+  pub signals_met : {E : Type 0} (d : Deed) (r : Result (Option StepResult) E)
+      (x : Result TurnResult E) → asks ≡ Some (Signals d)
+      → SignalsMet t.passes passes w d r → x ≡ turn_result_of r
+      → TurnsToMet consts t passes t.hash_state x
   signals_met d r x st m is = record {
     old = m.old;
     reaches = signals_turn consts t m.old (state_seen passes) passes w w_is d r x st
@@ -102,9 +102,9 @@ module _ (consts : WorldConsts) (t : Tasked) (passes : PassesValue) (w : Who)
   }
 
   -- a turn with an appended rule
-  pub appends_told : {E : Type 0} (rule : RuleValue) (a : Answered) → asks ≡ Some (Appends rule)
+  pub appends_told : {E : Type 0} (rule : RuleValue) (a : StepResult) → asks ≡ Some (Appends rule)
       → AppendsMet t.passes passes (record { who = w; rule = rule }) a
-      → ReachesMet {E = E} consts t passes t.hash_state (Ok (reached.Told a))
+      → TurnsToMet {E = E} consts t passes t.hash_state (Ok (turn_result.Told a))
   appends_told rule a st m = record {
     old = m.old;
     reaches = appends_turn consts t m.old (state_seen passes) passes w w_is rule a st m.appends
@@ -115,7 +115,7 @@ module _ (consts : WorldConsts) (t : Tasked) (passes : PassesValue) (w : Who)
 
   -- a turn with an appended rule that ran out of memory
   pub appends_failed : {E : Type 0} (e : E) → passes ≡ t.passes
-      → ReachesMet consts t passes t.hash_state (Err e)
+      → TurnsToMet consts t passes t.hash_state (Err e)
   appends_failed e same = record {
     old = state_seen passes;
     reaches = appends_fail consts t (state_seen passes) (state_seen passes) passes w w_is
@@ -125,10 +125,10 @@ module _ (consts : WorldConsts) (t : Tasked) (passes : PassesValue) (w : Who)
   }
 
 -- a turn with a step that does nothing
-pub nothing_met : {E : Type 0} (consts : WorldConsts) (t : Tasked) (a : Answered)
+pub nothing_met : {E : Type 0} (consts : WorldConsts) (t : Tasked) (a : StepResult)
     → step_at t.mind.program t.mind.thought.mind ≡ Some Nothing → a.place ≡ 0
     → a.told ≡ told.Nothing → a.action ≡ None
-    → ReachesMet {E = E} consts t t.passes t.hash_state (Ok (reached.Told a))
+    → TurnsToMet {E = E} consts t t.passes t.hash_state (Ok (turn_result.Told a))
 nothing_met consts t a st e k f = record {
   old = state_seen t.passes;
   reaches = nothing_tells consts t (state_seen t.passes) a st e k f;
@@ -139,12 +139,12 @@ nothing_met consts t a st e k f = record {
 -- a turn of a program that is over
 pub over_met : {E : Type 0} (consts : WorldConsts) (t : Tasked)
     → None ≡ step_at t.mind.program t.mind.thought.mind
-    → ReachesMet {E = E} consts t t.passes t.hash_state (Ok reached.Over)
+    → TurnsToMet {E = E} consts t t.passes t.hash_state (Ok turn_result.Over)
 over_met consts t st = record {
   old = state_seen t.passes;
   reaches = record {
     plays = λ h x. x;
-    goes = λ programs. ap (go_step (scene_of consts programs) t.number t.mind.program
+    goes = λ programs. ap (step_due (scene_of consts programs) t.number t.mind.program
         (state_seen t.passes) t.mind.thought) (sym st);
   };
   idle = λ idle. refl;
@@ -155,13 +155,13 @@ over_met consts t st = record {
 
 module _ (consts : WorldConsts) (t t2 : Tasked) (passes : PassesValue) (g : HashState) where
   -- the task after a turn for which its program was over
-  pub over_steps : {E : Type 0} (r : Result Reached E) (x : Reached) → r ≡ Ok x
-      → x ≡ reached.Over → ReachesMet consts t passes g r → t2 ≡ task_left t passes g
+  pub over_steps : {E : Type 0} (r : Result TurnResult E) (x : TurnResult) → r ≡ Ok x
+      → x ≡ turn_result.Over → TurnsToMet consts t passes g r → t2 ≡ task_left t passes g
       → StepsTo consts t t2 turns.Done
   over_steps {E} r x e f m k =
       let stops : Stops consts t m.old (state_seen passes) passes g turns.Done =
-      subst (λ (z : Result Reached E). Reaches consts t m.old (state_seen passes) passes g z)
-      (e ∙ ap (λ (z : Reached). Ok z) f) m.reaches in
+      subst (λ (z : Result TurnResult E). TurnsTo consts t m.old (state_seen passes) passes g z)
+      (e ∙ ap (λ (z : TurnResult). Ok z) f) m.reaches in
       record {
         old = m.old;
         goes = subst (λ (z : Tasked). Goes consts t m.old
@@ -169,13 +169,13 @@ module _ (consts : WorldConsts) (t t2 : Tasked) (passes : PassesValue) (g : Hash
       }
 
   -- the task after a turn that was blocked
-  pub blocked_steps : {E : Type 0} (r : Result Reached E) (x : Reached) → r ≡ Ok x
-      → x ≡ reached.Blocked → ReachesMet consts t passes g r → t2 ≡ task_left t passes g
+  pub blocked_steps : {E : Type 0} (r : Result TurnResult E) (x : TurnResult) → r ≡ Ok x
+      → x ≡ turn_result.Blocked → TurnsToMet consts t passes g r → t2 ≡ task_left t passes g
       → StepsTo consts t t2 turns.Blocked
   blocked_steps {E} r x e f m k =
       let stops : Stops consts t m.old (state_seen passes) passes g turns.Blocked =
-      subst (λ (z : Result Reached E). Reaches consts t m.old (state_seen passes) passes g z)
-      (e ∙ ap (λ (z : Reached). Ok z) f) m.reaches in
+      subst (λ (z : Result TurnResult E). TurnsTo consts t m.old (state_seen passes) passes g z)
+      (e ∙ ap (λ (z : TurnResult). Ok z) f) m.reaches in
       record {
         old = m.old;
         goes = subst (λ (z : Tasked). Goes consts t m.old
@@ -183,17 +183,18 @@ module _ (consts : WorldConsts) (t t2 : Tasked) (passes : PassesValue) (g : Hash
       }
 
   -- the task after a turn that moved it
-  pub moved_steps : {E : Type 0} (r : Result Reached E) (x : Reached) (a : Answered) (mode : Mode)
-      (action : Option ActionValue) (mind : TaskValue) → r ≡ Ok x → x ≡ reached.Told a
-      → ReachesMet consts t passes g r → t2 ≡ task_after t mind passes g → mode ≡ mode_in consts
+  pub moved_steps : {E : Type 0} (r : Result TurnResult E) (x : TurnResult) (a : StepResult)
+      (mode : Mode)
+      (action : Option ActionValue) (mind : TaskValue) → r ≡ Ok x → x ≡ turn_result.Told a
+      → TurnsToMet consts t passes g r → t2 ≡ task_after t mind passes g → mode ≡ mode_in consts
       → action ≡ a.action
       → ((rules : ℕ) → mind.thought ≡ hear mode t.mind.program t.mind.thought
       (record { place = a.place; told = a.told; action = given action; rules = rules }))
       → StepsTo consts t t2 turns.Moved
   moved_steps {E} r x a mode action mind e f m k same same_action thought =
       let tells : Tells consts t m.old (state_seen passes) passes g a =
-      subst (λ (z : Result Reached E). Reaches consts t m.old (state_seen passes) passes g z)
-      (e ∙ ap (λ (z : Reached). Ok z) f) m.reaches in
+      subst (λ (z : Result TurnResult E). TurnsTo consts t m.old (state_seen passes) passes g z)
+      (e ∙ ap (λ (z : TurnResult). Ok z) f) m.reaches in
       let heard : hear (mode_in consts) t.mind.program t.mind.thought (answer_of a tells.rules)
       ≡ mind.thought =
       sym (thought tells.rules
@@ -226,9 +227,10 @@ module _ (consts : WorldConsts) (t0 t t2 : Tasked) (room : HasRoom t0 t) where
   steps_with turn s = record {
     old = s.old;
     goes = λ programs.
-        let same : go (scene_of consts programs) t0.number t0.mind.program s.old t0.mind.thought
-        ≡ go (scene_of consts programs) t.number t.mind.program s.old t.mind.thought =
-        λ i. go (scene_of consts programs) (sym room.number i) (sym room.program i) s.old
+        let same : step_task (scene_of consts programs) t0.number t0.mind.program s.old
+        t0.mind.thought
+        ≡ step_task (scene_of consts programs) t.number t.mind.program s.old t.mind.thought =
+        λ i. step_task (scene_of consts programs) (sym room.number i) (sym room.program i) s.old
         (sym room.thought i) in
         same ∙ s.goes programs;
   }
@@ -249,12 +251,12 @@ module _ (consts : WorldConsts) (t0 t t2 : Tasked) (room : HasRoom t0 t) where
       (subst (λ (z : Option Step). IsBlockedBy consts t.number t.passes passes z) due b))
 
   -- if the task made no step, its passes have no new entries
-  pub idle_adds : {E : Type 0} (passes : PassesValue) (g : HashState) (y : Result Reached E)
-      (x : Reached) → y ≡ Ok x → ReachesMet consts t passes g y → IsIdle {E = E} (Ok x)
+  pub idle_adds : {E : Type 0} (passes : PassesValue) (g : HashState) (y : Result TurnResult E)
+      (x : TurnResult) → y ≡ Ok x → TurnsToMet consts t passes g y → IsIdle {E = E} (Ok x)
       → t2 ≡ task_left t passes g → mines_of t2.passes ≡ mines_of t0.passes
   idle_adds {E} passes g y x f m i k =
       ap (λ (z : Tasked). mines_of z.passes) k
-      ∙ m.idle (subst (λ (z : Result Reached E). IsIdle z) (sym f) i)
+      ∙ m.idle (subst (λ (z : Result TurnResult E). IsIdle z) (sym f) i)
       ∙ ap (λ (p : PassesValue). mines_of p) room.passes
 
 -- a proposition that holds in any case holds of an error

@@ -5,7 +5,7 @@ use Rattle.call_steps.specs.Mind.{Step}
 use Rattle.call_steps.specs.Mind.{Appends, Checks, Does, Signals}
 use Rattle.call_steps.specs.Steps.{given}
 use Rattle.inode_events.specs.Checks.{no_action}
-use Rattle.inode_events.specs.Past.{past}
+use Rattle.inode_events.specs.NewestFirst.{newest_first}
 use Rattle.inode_events.specs.Semaphores.{semaphore_says}
 use Rattle.inode_events.specs.declared.deed.Deed.{Deed}
 use Rattle.inode_events.specs.declared.deed.Deed.TheVariants as deed
@@ -39,10 +39,10 @@ use Rattle.world_locks.proofs.about_acts.Sharing.{appends_tells, signals_reach}
 use Rattle.world_locks.specs.acts.Acting.{EventIn, IsPlacedAt, IsSaid, ReadyAt, told_in, told_of}
 use Rattle.world_locks.specs.acts.Checking.{CheckIn}
 use Rattle.world_locks.specs.acts.Sharing.{AppendsTo, SignalsOn}
-use Rattle.world_locks.specs.acts.Turning.{Fails, Reaches, StillPlays, Stops, Tells, answer_of, reached_by}
-use Rattle.world_locks.specs.acts.declared.answers.Answered.{Answered}
-use Rattle.world_locks.specs.acts.declared.answers.Reached.{Reached}
-use Rattle.world_locks.specs.acts.declared.answers.Reached.TheVariants as reached
+use Rattle.world_locks.specs.acts.Turning.{Fails, StillPlays, Stops, Tells, TurnsTo, answer_of, turn_result_of}
+use Rattle.world_locks.specs.acts.declared.answers.StepResult.{StepResult}
+use Rattle.world_locks.specs.acts.declared.answers.TurnResult.{TurnResult}
+use Rattle.world_locks.specs.acts.declared.answers.TurnResult.TheVariants as turn_result
 
 module _ (consts : WorldConsts) (n room : ℕ) (g : HashState) (passes : PassesValue)
     (h : List Answer) where
@@ -172,48 +172,49 @@ module _ (consts : WorldConsts) (t : Tasked) (old new : State) (passes : PassesV
   asks = step_at t.mind.program t.mind.thought.mind
 
   -- a turn with a deed on an inode
-  pub does_turn : {E : Type 0} (i : ℕ) (d : Deed) (g : HashState) (r : Result (Option Answered) E)
-      (x : Result Reached E) → asks ≡ Some (Does i d)
-      → EventIn consts i (slice_get consts.sites i) w d old new t.passes passes t.hash_state g
+  pub does_turn : {E : Type 0} (i : ℕ) (d : Deed) (g : HashState) (r : Result (Option StepResult) E)
+      (x : Result TurnResult E) → asks ≡ Some (Does i d)
+      → EventIn consts i (slice_get consts.each_inode i) w d old new t.passes passes t.hash_state g
       (told_in r)
-      → IfOk r (IsSaid consts i d old) → x ≡ reached_by r
-      → Reaches consts t old new passes g x
+      → IfOk r (IsSaid consts i d old) → x ≡ turn_result_of r
+      → TurnsTo consts t old new passes g x
   does_turn {E} i d g r x st e said is =
-      subst (λ (z : Result Reached E). Reaches consts t old new passes g z) (sym is)
+      subst (λ (z : Result TurnResult E). TurnsTo consts t old new passes g z) (sym is)
       (does_reaches consts t i d old new passes g st r
-      (subst (λ (y : Who). EventIn consts i (slice_get consts.sites i) y d old new t.passes passes
-      t.hash_state g (told_in r)) w_is e) said)
+      (subst (λ (y : Who). EventIn consts i (slice_get consts.each_inode i) y d old new
+      t.passes passes t.hash_state g (told_in r)) w_is e) said)
 
   -- a turn with a check
   pub check_turn : {E : Type 0} (i : ℕ) (asked : Asked) (cred : Cred)
-      (r : Result (Option Answered) E) (x : Result Reached E)
+      (r : Result (Option StepResult) E) (x : Result TurnResult E)
       → asks ≡ Some (Checks i asked.file asked.func asked.mask)
       → cred ≡ t.mind.program.cred
-      → ((g : HashState) → CheckIn consts i (slice_get consts.sites i) w cred asked old new t.passes
-      passes g r) → x ≡ reached_by r
-      → Reaches consts t old new passes t.hash_state x
+      → ((g : HashState)
+      → CheckIn consts i (slice_get consts.each_inode i) w cred asked old new t.passes
+      passes g r) → x ≡ turn_result_of r
+      → TurnsTo consts t old new passes t.hash_state x
   check_turn {E} i asked cred r x st c e is =
-      subst (λ (z : Result Reached E). Reaches consts t old new passes t.hash_state z) (sym is)
+      subst (λ (z : Result TurnResult E). TurnsTo consts t old new passes t.hash_state z) (sym is)
       (check_reaches consts t i asked.file asked.func asked.mask old new passes st r
-      (subst (λ (y : Who). CheckIn consts i (slice_get consts.sites i) y t.mind.program.cred
+      (subst (λ (y : Who). CheckIn consts i (slice_get consts.each_inode i) y t.mind.program.cred
       asked old new t.passes passes t.hash_state r) w_is
-      (subst (λ (k : Cred). CheckIn consts i (slice_get consts.sites i) w k asked old new t.passes
-      passes t.hash_state r) c (e t.hash_state))))
+      (subst (λ (k : Cred). CheckIn consts i (slice_get consts.each_inode i) w k asked old
+      new t.passes passes t.hash_state r) c (e t.hash_state))))
 
   -- a turn with a post or a wait
-  pub signals_turn : {E : Type 0} (d : Deed) (r : Result (Option Answered) E)
-      (x : Result Reached E) → asks ≡ Some (Signals d)
+  pub signals_turn : {E : Type 0} (d : Deed) (r : Result (Option StepResult) E)
+      (x : Result TurnResult E) → asks ≡ Some (Signals d)
       → SignalsOn old new t.passes passes w d (told_in r)
-      → IfOk r (λ o. (told_of o ≡ semaphore_says (past old.signals) d)
-      × IsPlacedAt (length old.signals) o) → x ≡ reached_by r
-      → Reaches consts t old new passes t.hash_state x
+      → IfOk r (λ o. (told_of o ≡ semaphore_says (newest_first old.signals) d)
+      × IsPlacedAt (length old.signals) o) → x ≡ turn_result_of r
+      → TurnsTo consts t old new passes t.hash_state x
   signals_turn {E} d r x st e said is =
-      subst (λ (z : Result Reached E). Reaches consts t old new passes t.hash_state z) (sym is)
+      subst (λ (z : Result TurnResult E). TurnsTo consts t old new passes t.hash_state z) (sym is)
       (signals_reach consts t d old new passes st r
       (subst (λ (y : Who). SignalsOn old new t.passes passes y d (told_in r)) w_is e) said)
 
   -- a turn with an appended rule, or one that ran out of memory
-  pub appends_turn : (rule : RuleValue) (a : Answered) → asks ≡ Some (Appends rule)
+  pub appends_turn : (rule : RuleValue) (a : StepResult) → asks ≡ Some (Appends rule)
       → AppendsTo old new t.passes passes (record { who = w; rule = rule })
       → (a.place ≡ length old.added) × (a.told ≡ told.Done) × (a.action ≡ None)
       → Tells consts t old new passes t.hash_state a
@@ -232,7 +233,7 @@ module _ (consts : WorldConsts) (t : Tasked) (old new : State) (passes : PassesV
 module _ (consts : WorldConsts) (t : Tasked) (old new : State) (passes : PassesValue)
     (g : HashState) where
   -- the task after it heard the answer
-  pub heard_task : (a : Answered) (mind : TaskValue) (x : Tells consts t old new passes g a)
+  pub heard_task : (a : StepResult) (mind : TaskValue) (x : Tells consts t old new passes g a)
       → IsTask consts t → mind.program ≡ t.mind.program
       → mind.thought ≡ hear (mode_in consts) t.mind.program t.mind.thought (answer_of a x.rules)
       → mind.checked ≡ unwrap_or a.action t.mind.checked
@@ -250,7 +251,7 @@ module _ (consts : WorldConsts) (t : Tasked) (old new : State) (passes : PassesV
 module _ (consts after : WorldConsts) (t : Tasked) (old new : State) (passes : PassesValue)
     (g : HashState) (same : after ≡ consts) (is : IsTask consts t) where
   -- the task after it heard the answer is still one of its world
-  told_still : (a : Answered) (mode : Mode) (action : Option ActionValue) (mind : TaskValue)
+  told_still : (a : StepResult) (mode : Mode) (action : Option ActionValue) (mind : TaskValue)
       → Tells consts t old new passes g a → mode ≡ mode_in consts → action ≡ a.action
       → mind.program ≡ t.mind.program
       → ((rules : ℕ) → mind.thought ≡ hear mode t.mind.program t.mind.thought
@@ -274,27 +275,27 @@ module _ (consts after : WorldConsts) (t : Tasked) (old new : State) (passes : P
       (record { history = is.history; played = x is.history is.played })
 
   -- the task is still one of its world if its program was over, it was blocked, or it moved
-  pub over_still : {E : Type 0} (r : Result Reached E) (x : Reached) (after_turn : Tasked)
-      → r ≡ Ok x → x ≡ reached.Over → Reaches consts t old new passes g r
+  pub over_still : {E : Type 0} (r : Result TurnResult E) (x : TurnResult) (after_turn : Tasked)
+      → r ≡ Ok x → x ≡ turn_result.Over → TurnsTo consts t old new passes g r
       → after_turn ≡ task_left t passes g → IsTask after after_turn
   over_still {E} r x after_turn e f h k =
       let stops : Stops consts t old new passes g turns.Done =
-      subst (λ (z : Result Reached E). Reaches consts t old new passes g z)
-      (e ∙ ap (λ (z : Reached). Ok z) f) h in
+      subst (λ (z : Result TurnResult E). TurnsTo consts t old new passes g z)
+      (e ∙ ap (λ (z : TurnResult). Ok z) f) h in
       subst (λ (z : Tasked). IsTask after z) (sym k) (left_still stops.plays)
 
-  pub blocked_still : {E : Type 0} (r : Result Reached E) (x : Reached) (after_turn : Tasked)
-      → r ≡ Ok x → x ≡ reached.Blocked → Reaches consts t old new passes g r
+  pub blocked_still : {E : Type 0} (r : Result TurnResult E) (x : TurnResult) (after_turn : Tasked)
+      → r ≡ Ok x → x ≡ turn_result.Blocked → TurnsTo consts t old new passes g r
       → after_turn ≡ task_left t passes g → IsTask after after_turn
   blocked_still {E} r x after_turn e f h k =
       let stops : Stops consts t old new passes g turns.Blocked =
-      subst (λ (z : Result Reached E). Reaches consts t old new passes g z)
-      (e ∙ ap (λ (z : Reached). Ok z) f) h in
+      subst (λ (z : Result TurnResult E). TurnsTo consts t old new passes g z)
+      (e ∙ ap (λ (z : TurnResult). Ok z) f) h in
       subst (λ (z : Tasked). IsTask after z) (sym k) (left_still stops.plays)
 
-  pub moved_still : {E : Type 0} (r : Result Reached E) (x : Reached) (after_turn : Tasked)
-      (a : Answered) (mode : Mode) (action : Option ActionValue) (mind : TaskValue)
-      → r ≡ Ok x → x ≡ reached.Told a → Reaches consts t old new passes g r
+  pub moved_still : {E : Type 0} (r : Result TurnResult E) (x : TurnResult) (after_turn : Tasked)
+      (a : StepResult) (mode : Mode) (action : Option ActionValue) (mind : TaskValue)
+      → r ≡ Ok x → x ≡ turn_result.Told a → TurnsTo consts t old new passes g r
       → after_turn ≡ task_after t mind passes g → mode ≡ mode_in consts → action ≡ a.action
       → mind.program ≡ t.mind.program
       → ((rules : ℕ) → mind.thought ≡ hear mode t.mind.program t.mind.thought
@@ -303,7 +304,7 @@ module _ (consts after : WorldConsts) (t : Tasked) (old new : State) (passes : P
       → IsTask after after_turn
   moved_still {E} r x after_turn a mode action mind e f h k m same_action program thought checked =
       let tells : Tells consts t old new passes g a =
-      subst (λ (z : Result Reached E). Reaches consts t old new passes g z)
-      (e ∙ ap (λ (z : Reached). Ok z) f) h in
+      subst (λ (z : Result TurnResult E). TurnsTo consts t old new passes g z)
+      (e ∙ ap (λ (z : TurnResult). Ok z) f) h in
       subst (λ (z : Tasked). IsTask after z) (sym k)
       (told_still a mode action mind tells m same_action program thought checked)

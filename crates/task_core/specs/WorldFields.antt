@@ -13,5 +13,6 @@ abbrev pub world_of : Inside → WorldValue
 world_of w = record { consts = consts_in w; state = state_of_parts w.parts }
 
 pub record IsWorld (w : Inside) : Type 0 where
-  pub parts : AreParts (consts_in w) w.parts.stations.items w.parts.book w.parts.sems w.parts.rules
+  pub parts : AreParts (consts_in w) w.parts.world_inodes.items w.parts.book w.parts.sems
+      w.parts.rules
   pub spares : AreSpares (consts_in w) w.parts.spares.items

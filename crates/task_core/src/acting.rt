@@ -12,7 +12,7 @@ ghost use Rattle.world_locks.specs.acts.Checking.{CheckIn};
 use crate::world::World;
 use std::alloc::AllocError as OutOfMemory;
 use task_mind::Doing;
-use world_locks::acts::{Actor, Answered, Checks, apply_at, check_at};
+use world_locks::acts::{Actor, Checks, StepResult, apply_at, check_at};
 use world_model::{HashState, Passes};
 
 impl World {
@@ -25,22 +25,23 @@ impl World {
         actor: &Actor<'_>,
         doing: Doing<'_>,
         hash_state: &mut HashState,
-    ) -> Result<Option<Answered>, OutOfMemory>
+    ) -> Result<Option<StepResult>, OutOfMemory>
         requires passes { ArePassesOf self.old.consts actor.now.who.task passes.old }
         requires ready { ReadyAt self.old.consts i passes.old.inodes actor.now.who.task
             hash_state.old actor.now.action actor.now.slot (deed_in doing) }
         ensures consts { self.new.consts ≡ self.old.consts }
-        ensures event { EventIn self.old.consts i (slice_get self.old.consts.sites i) actor.now.who
+        ensures event { EventIn self.old.consts i (slice_get self.old.consts.each_inode i)
+            actor.now.who
             (deed_in doing.entry) self.old.state self.new.state passes.old passes.new hash_state.old
             hash_state.new (told_in result) }
         ensures told { IfOk result (λ o. IsSaid self.old.consts i (deed_in doing.entry)
             self.old.state o) }
     {
-        if i as usize >= self.parts.stations.len() {
+        if i as usize >= self.parts.world_inodes.len() {
             return Ok(None);
         }
         apply_at(
-            &mut self.parts.stations[i as usize],
+            &mut self.parts.world_inodes[i as usize],
             &mut passes.inodes[i as usize],
             &mut self.parts.book,
             &mut passes.book,
@@ -58,25 +59,25 @@ impl World {
         passes: &mut Passes,
         actor: &Actor<'_>,
         asked: Checks,
-    ) -> Result<Option<Answered>, OutOfMemory>
+    ) -> Result<Option<StepResult>, OutOfMemory>
         requires passes { ArePassesOf self.old.consts actor.now.who.task passes.old }
         requires ready { (g : AnyHashState) → ReadyAt self.old.consts i passes.old.inodes
             actor.now.who.task g actor.now.action actor.now.slot
             (Deed.Check asked.file asked.func no_action 0) }
         ensures consts { self.new.consts ≡ self.old.consts }
         ensures check { (g : AnyHashState) → CheckIn self.old.consts i
-            (slice_get self.old.consts.sites i) actor.now.who actor.now.cred.now asked
+            (slice_get self.old.consts.each_inode i) actor.now.who actor.now.cred.now asked
             self.old.state self.new.state passes.old passes.new g result }
     {
-        if i as usize >= self.parts.stations.len() {
+        if i as usize >= self.parts.world_inodes.len() {
             return Ok(None);
         }
-        let station = &mut self.parts.stations[i as usize];
-        self.parts.rules.look(&mut station.rules);
+        let world_inode = &mut self.parts.world_inodes[i as usize];
+        self.parts.rules.look(&mut world_inode.rules);
         self.parts.rules.look(&mut passes.rules);
-        let place = &self.parts.supers[station.place as usize];
+        let place = &self.parts.supers[world_inode.place as usize];
         check_at(
-            station,
+            world_inode,
             &mut passes.inodes[i as usize],
             &mut self.parts.book,
             &mut passes.book,

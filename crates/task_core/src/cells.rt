@@ -2,7 +2,7 @@
 
 ghost use Rattle.std.specs.Prelude.{◌≡◌};
 ghost use Rattle.std.specs.Option.{option_copied};
-ghost use Rattle.inode_events.specs.Past.{past};
+ghost use Rattle.inode_events.specs.NewestFirst.{newest_first};
 ghost use Rattle.inode_events.specs.Semaphores.{left};
 ghost use Rattle.task_core.specs.Cells.{IsCellAt};
 
@@ -16,15 +16,15 @@ impl World {
     pub fn inode(&self, i: usize) -> Option<&InodeCell>
         ensures { IsCellAt self.now.consts self.now.state i (option_copied result) }
     {
-        match self.parts.stations.get(i) {
-            Some(station) => Some(&station.cell),
+        match self.parts.world_inodes.get(i) {
+            Some(world_inode) => Some(&world_inode.cell),
             None => None,
         }
     }
 
     /// The value of the semaphore: its posts minus its waits.
     pub fn left(&self, sem: u8) -> u64
-        ensures { result ≡ left sem (past self.now.state.signals) }
+        ensures { result ≡ left sem (newest_first self.now.state.signals) }
     {
         self.parts.sems.left(sem)
     }

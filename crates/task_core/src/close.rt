@@ -4,7 +4,7 @@ ghost use Rattle.std.specs.Prelude.{◌≡◌, ℕ, ◌<◌, false, true, All, I
 ghost use Rattle.std.specs.List.{list_all, list_any};
 ghost use Rattle.call_steps.specs.declared.ending.Ending.{Ending as AnyEnding};
 ghost use Rattle.ima_templates.specs.IsEntry.{IsEntry};
-ghost use Rattle.inode_events.specs.Past.{past};
+ghost use Rattle.inode_events.specs.NewestFirst.{newest_first};
 ghost use Rattle.inode_events.specs.Semaphores.{left};
 ghost use Rattle.run_model.specs.Ended.{IsThrough};
 ghost use Rattle.run_model.specs.EndedValue.{ended_of};
@@ -50,14 +50,14 @@ fn are_done(tasks: &[Task]) -> bool
 
 // Whether no task can go on.
 fn all_rest(tasks: &[Task], sems: &SemaphoreCell) -> bool
-    ensures { result ≡ list_all (rests (λ sem. left sem (past sems.now.list))) tasks.now }
+    ensures { result ≡ list_all (rests (λ sem. left sem (newest_first sems.now.list))) tasks.now }
 {
     tasks.iter().all(|task| rests(&task.mind, sems))
 }
 
 // Whether some task isn't done, and none can go on.
 fn are_stuck(tasks: &[Task], sems: &SemaphoreCell) -> bool
-    ensures { result ≡ are_stuck (λ sem. left sem (past sems.now.list)) tasks.now }
+    ensures { result ≡ are_stuck (λ sem. left sem (newest_first sems.now.list)) tasks.now }
 {
     !are_done(tasks) && all_rest(tasks, sems)
 }

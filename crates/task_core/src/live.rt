@@ -38,7 +38,7 @@ impl<N: Name> Live<N> {
 
     /// Takes the lock of the inode of this number, calls `f` once, and releases the lock.
     pub fn hold<R: Wait, F: FnOnce()>(&self, rt: &R, inode: u32, f: F)
-        requires below { inode < length N.consts.sites }
+        requires below { inode < length N.consts.each_inode }
         requires call { F.IsAlwaysCallable f }
     {
         self.locks.hold(rt, inode, f);

@@ -20,7 +20,7 @@ impl Task {
         ensures same { (self.new.number ≡ self.old.number) × (self.new.mind ≡ self.old.mind) }
     {
         let passes = &mut self.passes;
-        look_at_inodes(&mut world.parts.stations, &mut passes.inodes);
+        look_at_inodes(&mut world.parts.world_inodes, &mut passes.inodes);
         world.parts.sems.look(&mut passes.sems);
         world.parts.book.look(&mut passes.book);
         world.parts.rules.look(&mut passes.rules);

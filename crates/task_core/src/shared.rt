@@ -4,7 +4,7 @@ ghost use Rattle.std.specs.Prelude.{◌≡◌, false, IfOk, OnErr};
 ghost use Rattle.run_model.specs.History.{step_at};
 ghost use Rattle.run_model.specs.Rounds.{is_moved};
 ghost use Rattle.run_model.specs.declared.turn.Turn.TheVariants as Turn;
-ghost use Rattle.task_core.specs.Shared.{IsBlockedBy, ReachesMet, StepsTo};
+ghost use Rattle.task_core.specs.Shared.{IsBlockedBy, StepsTo, TurnsToMet};
 ghost use Rattle.world_model.specs.Tasks.{IsTask};
 ghost use Rattle.world_locks.specs.Met.{mines_of};
 
@@ -17,26 +17,26 @@ use std::alloc::AllocError as OutOfMemory;
 use std::sync::Wait;
 use task_mind::{Step, TaskMind};
 use world_locks::Name;
-use world_locks::acts::{Actor, Answered, Checks, Reached, reached_by};
+use world_locks::acts::{Actor, Checks, StepResult, TurnResult, turn_result_of};
 use world_model::{HashState, Passes};
 
 impl<N: Name> Live<N> {
     /// Makes the step that is due for the task with these passes and hashes.
-    fn reach<R: Wait>(
+    fn try_step<R: Wait>(
         &self,
         rt: &R,
         mind: &TaskMind,
         number: u32,
         passes: &mut Passes,
         hash_state: &mut HashState,
-    ) -> Result<Reached, OutOfMemory>
+    ) -> Result<TurnResult, OutOfMemory>
         requires { IsTask N.consts (record {
           number = number;
           mind = mind.now;
           hash_state = hash_state.old;
           passes = passes.old;
         }) }
-        ensures { ReachesMet N.consts (record {
+        ensures { TurnsToMet N.consts (record {
           number = number;
           mind = mind.now;
           hash_state = hash_state.old;
@@ -52,14 +52,14 @@ impl<N: Name> Live<N> {
         };
         let locks = &self.locks;
         match mind.next() {
-            None => Ok(Reached::Over),
-            Some(Step::Nothing) => Ok(Reached::Told(Answered {
+            None => Ok(TurnResult::Over),
+            Some(Step::Nothing) => Ok(TurnResult::Told(StepResult {
                 place: 0,
                 told: Told::Nothing,
                 action: None,
             })),
             Some(Step::Does { inode, doing }) => {
-                reached_by(locks.lock_and_apply(rt, inode, passes, &actor, doing, hash_state))
+                turn_result_of(locks.lock_and_apply(rt, inode, passes, &actor, doing, hash_state))
             }
             Some(
                 Step::Checks {
@@ -68,27 +68,27 @@ impl<N: Name> Live<N> {
                     func,
                     mask,
                 },
-            ) => reached_by(locks.lock_and_check(
+            ) => turn_result_of(locks.lock_and_check(
                 rt,
                 inode,
                 passes,
                 &actor,
                 Checks { file, func, mask },
             )),
-            Some(Step::Posts(sem)) => reached_by(locks.lock_and_signal(
+            Some(Step::Posts(sem)) => turn_result_of(locks.lock_and_signal(
                 rt,
                 passes,
                 who,
                 Deed::Post(sem),
             )),
-            Some(Step::Waits(sem)) => reached_by(locks.lock_and_signal(
+            Some(Step::Waits(sem)) => turn_result_of(locks.lock_and_signal(
                 rt,
                 passes,
                 who,
                 Deed::Wait(sem),
             )),
             Some(Step::Appends(rule)) => match locks.lock_and_append(rt, passes, who, rule) {
-                Ok(answered) => Ok(Reached::Told(answered)),
+                Ok(answered) => Ok(TurnResult::Told(answered)),
                 Err(err) => Err(err),
             },
         }
@@ -120,16 +120,16 @@ impl Task {
             × (mines_of self.new.passes ≡ mines_of self.old.passes)) }
     {
         self.mind.reserve()?;
-        match world.reach(
+        match world.try_step(
             rt,
             &self.mind,
             self.number,
             &mut self.passes,
             &mut self.hash_state,
         )? {
-            Reached::Over => Ok(Turn::Done),
-            Reached::Blocked => Ok(Turn::Blocked),
-            Reached::Told(answered) => {
+            TurnResult::Over => Ok(Turn::Done),
+            TurnResult::Blocked => Ok(Turn::Blocked),
+            TurnResult::Told(answered) => {
                 self.mind.hear(
                     world.locks.mode(),
                     &answered.told,

@@ -2,7 +2,7 @@
 
 ghost use Rattle.std.specs.Prelude.{◌≡◌, ◌+◌, [], ◌∷◌, ◌++◌, length, None, IfOk, OnErr, OnOk};
 ghost use Rattle.inode_events.specs.Asked.{entered, made};
-ghost use Rattle.inode_events.specs.Past.{past};
+ghost use Rattle.inode_events.specs.NewestFirst.{newest_first};
 ghost use Rattle.inode_events.specs.Semaphores.{semaphore_says};
 ghost use Rattle.world_locks.specs.acts.Acting.{IsPlacedAt, told_in, told_of};
 ghost use Rattle.world_locks.specs.acts.Sharing.{AppendsTo, SignalsOn};
@@ -13,7 +13,7 @@ use inode_events::{Deed, Told};
 use inode_meta::Who;
 use policy_rules::Rule;
 use std::alloc::AllocError as OutOfMemory;
-use world_locks::acts::Answered;
+use world_locks::acts::StepResult;
 use world_model::Passes;
 
 impl World {
@@ -23,18 +23,18 @@ impl World {
         passes: &mut Passes,
         who: Who,
         deed: Deed,
-    ) -> Result<Option<Answered>, OutOfMemory>
+    ) -> Result<Option<StepResult>, OutOfMemory>
         requires { ArePassesOf self.old.consts who.task passes.old }
         ensures consts { self.new.consts ≡ self.old.consts }
         ensures signals { SignalsOn self.old.state self.new.state passes.old passes.new who deed
             (told_in result) }
         ensures told { IfOk result (λ o. (told_of o
-            ≡ semaphore_says (past self.old.state.signals) deed)
+            ≡ semaphore_says (newest_first self.old.state.signals) deed)
             × IsPlacedAt (length self.old.state.signals) o) }
     {
         self.parts.sems.reserve()?;
         match self.parts.sems.signal(&mut passes.sems, who, deed) {
-            Some(place) => Ok(Some(Answered {
+            Some(place) => Ok(Some(StepResult {
                 place,
                 told: Told::Done,
                 action: None,
@@ -49,7 +49,7 @@ impl World {
         passes: &mut Passes,
         who: Who,
         rule: &Rule,
-    ) -> Result<Answered, OutOfMemory>
+    ) -> Result<StepResult, OutOfMemory>
         requires { ArePassesOf self.old.consts who.task passes.old }
         ensures consts { self.new.consts ≡ self.old.consts }
         ensures appends { OnOk result (AppendsTo self.old.state self.new.state passes.old
@@ -63,7 +63,7 @@ impl World {
         self.parts
             .rules
             .append(self.parts.alloc, &mut passes.rules, who, rule)?;
-        Ok(Answered {
+        Ok(StepResult {
             place,
             told: Told::Done,
             action: None,

@@ -50,7 +50,7 @@ impl Task {
         ensures thought { IfOk result (λ t. t.mind.thought ≡ start) }
         ensures passes { IfOk result (λ t. t.passes ≡ passes) }
         ensures task { IfOk result (λ t. (consts : WorldConsts) → ArePassesOf consts number passes
-            → AreUnused passes → AreCallsOf (length consts.sites) program.items
+            → AreUnused passes → AreCallsOf (length consts.each_inode) program.items
             → IsTask consts t) }
     {
         let mind = TaskMind::new(alloc, cred, program)?;

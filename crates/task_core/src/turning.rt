@@ -2,8 +2,8 @@
 
 ghost use Rattle.std.specs.Prelude.{◌≡◌, List, IfOk, OnErr};
 ghost use Rattle.run_model.specs.Scene.{Program};
-ghost use Rattle.run_model.specs.Turns.{go};
-ghost use Rattle.world_locks.specs.acts.Turning.{Reaches, turned_to};
+ghost use Rattle.run_model.specs.Turns.{step_task};
+ghost use Rattle.world_locks.specs.acts.Turning.{TurnsTo, turned_to};
 ghost use Rattle.world_model.specs.WorldConsts.{scene_of};
 ghost use Rattle.world_model.specs.Tasks.{IsTask};
 ghost use Rattle.world_locks.specs.worlds.Due.{slot_in};
@@ -17,7 +17,7 @@ use inode_meta::Slot;
 use run_model::Turn;
 use std::alloc::AllocError as OutOfMemory;
 use task_mind::{Step, TaskMind};
-use world_locks::acts::{Actor, Answered, Checks, Reached, reached_by};
+use world_locks::acts::{Actor, Checks, StepResult, TurnResult, turn_result_of};
 use world_model::{HashState, Passes};
 
 // The slot of a take, if one is due.
@@ -32,13 +32,13 @@ pub(crate) fn slot_due(mind: &TaskMind) -> Slot
 
 impl World {
     /// Makes the step that is due for the task with these passes and hashes.
-    fn reach(
+    fn try_step(
         &mut self,
         mind: &TaskMind,
         number: u32,
         passes: &mut Passes,
         hash_state: &mut HashState,
-    ) -> Result<Reached, OutOfMemory>
+    ) -> Result<TurnResult, OutOfMemory>
         requires { IsTask self.old.consts (record {
           number = number;
           mind = mind.now;
@@ -46,7 +46,7 @@ impl World {
           passes = passes.old;
         }) }
         ensures consts { self.new.consts ≡ self.old.consts }
-        ensures reaches { Reaches self.old.consts (record {
+        ensures reaches { TurnsTo self.old.consts (record {
           number = number;
           mind = mind.now;
           hash_state = hash_state.old;
@@ -61,14 +61,14 @@ impl World {
             slot: slot_due(mind),
         };
         match mind.next() {
-            None => Ok(Reached::Over),
-            Some(Step::Nothing) => Ok(Reached::Told(Answered {
+            None => Ok(TurnResult::Over),
+            Some(Step::Nothing) => Ok(TurnResult::Told(StepResult {
                 place: 0,
                 told: Told::Nothing,
                 action: None,
             })),
             Some(Step::Does { inode, doing }) => {
-                reached_by(self.apply(inode, passes, &actor, doing, hash_state))
+                turn_result_of(self.apply(inode, passes, &actor, doing, hash_state))
             }
             Some(
                 Step::Checks {
@@ -77,11 +77,11 @@ impl World {
                     func,
                     mask,
                 },
-            ) => reached_by(self.check(inode, passes, &actor, Checks { file, func, mask })),
-            Some(Step::Posts(sem)) => reached_by(self.signal(passes, who, Deed::Post(sem))),
-            Some(Step::Waits(sem)) => reached_by(self.signal(passes, who, Deed::Wait(sem))),
+            ) => turn_result_of(self.check(inode, passes, &actor, Checks { file, func, mask })),
+            Some(Step::Posts(sem)) => turn_result_of(self.signal(passes, who, Deed::Post(sem))),
+            Some(Step::Waits(sem)) => turn_result_of(self.signal(passes, who, Deed::Wait(sem))),
             Some(Step::Appends(rule)) => match self.append(passes, who, rule) {
-                Ok(answered) => Ok(Reached::Told(answered)),
+                Ok(answered) => Ok(TurnResult::Told(answered)),
                 Err(err) => Err(err),
             },
         }
@@ -94,7 +94,7 @@ impl Task {
     pub fn step(&mut self, world: &mut World) -> Result<Turn, OutOfMemory>
         requires { IsTask world.old.consts self.old }
         ensures go { IfOk result (λ r. (programs : List Program)
-            → go (scene_of world.old.consts programs) self.old.number self.old.mind.program
+            → step_task (scene_of world.old.consts programs) self.old.number self.old.mind.program
             world.old.state self.old.mind.thought
             ≡ turned_to world.new.state self.new.mind.thought r) }
         ensures still { IsTask world.new.consts self.new }
@@ -105,15 +105,15 @@ impl Task {
             × (self.new.mind.thought ≡ self.old.mind.thought)) }
     {
         self.mind.reserve()?;
-        match world.reach(
+        match world.try_step(
             &self.mind,
             self.number,
             &mut self.passes,
             &mut self.hash_state,
         )? {
-            Reached::Over => Ok(Turn::Done),
-            Reached::Blocked => Ok(Turn::Blocked),
-            Reached::Told(answered) => {
+            TurnResult::Over => Ok(Turn::Done),
+            TurnResult::Blocked => Ok(Turn::Blocked),
+            TurnResult::Told(answered) => {
                 self.mind.hear(
                     world.parts.settings.mode,
                     &answered.told,

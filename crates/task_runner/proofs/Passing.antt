@@ -11,7 +11,7 @@ use Rattle.std.proofs.lemmas.List.Elements.{All-append, All-cons, All-nil}
 use Rattle.std.proofs.lemmas.List.Folds.{list_any-append}
 use Rattle.std.proofs.lemmas.Option.{same_Some, slice_get_past}
 use Rattle.run_model.specs.Rounds.{is_moved}
-use Rattle.run_model.specs.Turns.{go}
+use Rattle.run_model.specs.Turns.{step_task}
 use Rattle.run_model.specs.declared.turn.Turn.{Turn}
 use Rattle.task_core.specs.worlds.WorldConsts.{WorldConsts, scene_of}
 use Rattle.task_core.specs.worlds.Tasks.{Tasked}
@@ -26,9 +26,10 @@ stays_and_steps : (consts : WorldConsts) (t mid t2 : Tasked) (r : Option Turn) �
 stays_and_steps consts t mid t2 (Some r) h s = record {
   old = s.old;
   goes = λ programs.
-      let same : go (scene_of consts programs) mid.number mid.mind.program s.old mid.mind.thought
-      ≡ go (scene_of consts programs) t.number t.mind.program s.old t.mind.thought =
-      λ i. go (scene_of consts programs) (h.number i) (h.program i) s.old (h.thought i) in
+      let same : step_task (scene_of consts programs) mid.number mid.mind.program s.old
+      mid.mind.thought
+      ≡ step_task (scene_of consts programs) t.number t.mind.program s.old t.mind.thought =
+      λ i. step_task (scene_of consts programs) (h.number i) (h.program i) s.old (h.thought i) in
       sym same ∙ s.goes programs;
 }
 stays_and_steps consts t mid t2 None h s = record {

@@ -3,7 +3,7 @@ use Rattle.std.proofs.Common.{◌≡◌, ℕ, List, [], ◌∷◌, length, Optio
 use Rattle.std.specs.Prelude.{Result, Ok, Err, slice_get, unwrap_or}
 use Rattle.std.proofs.lemmas.Option.{get_or_from_slice_get, same_Some}
 use Rattle.inode_events.specs.Asked.{outcome}
-use Rattle.inode_events.specs.Past.{past}
+use Rattle.inode_events.specs.NewestFirst.{newest_first}
 use Rattle.inode_events.specs.State.{metadata}
 use Rattle.inode_events.specs.declared.deed.Deed.{Deed}
 use Rattle.inode_events.specs.declared.deed.Deed.TheVariants as deed
@@ -16,11 +16,11 @@ use Rattle.policy_rules.specs.RuleValue.{RuleValue}
 use Rattle.policy_rules.specs.declared.access.Action.{Action}
 use Rattle.policy_rules.specs.declared.rule.Func.{Func}
 use Rattle.run_model.specs.History.{Answer, hear, step_at, who_at}
-use Rattle.run_model.specs.Scene.{Program, Station, decided, rules_with}
-use Rattle.run_model.specs.Turns.{State, go_check, go_event, go_step}
+use Rattle.run_model.specs.Scene.{Program, ScriptFile, decided, rules_with}
+use Rattle.run_model.specs.Turns.{State, step_check, step_due, step_event}
 use Rattle.run_model.specs.declared.turn.Turn.TheVariants as turns
 use Rattle.task_steps.specs.declared.listed.Checks.{Checks as Asked}
-use Rattle.task_steps.specs.worlds.WorldConsts.{Site, WorldConsts, inode_in, mode_in, scene_of, station_of, super_at}
+use Rattle.task_steps.specs.worlds.WorldConsts.{InodeConsts, WorldConsts, inode_in, mode_in, scene_of, script_file_of, super_at}
 use Rattle.task_steps.specs.worlds.Tasks.{HasPlayed, PassesValue, Tasked, action_by}
 use Rattle.task_steps.proofs.about_worlds.Blocking.{none_is_played}
 use Rattle.task_steps.proofs.about_worlds.Eventing.{check_is_played, get_map}
@@ -29,8 +29,8 @@ use Rattle.task_steps.specs.worlds.Plays.{HasHeard, IsStepFor, check_answer, tas
 use Rattle.task_steps.proofs.Going.{goes_event}
 use Rattle.task_steps.proofs.Reaching.{get_map_none, same_left, unmoved}
 use Rattle.task_steps.specs.Checking.{CheckIn, IsCheckedBy}
-use Rattle.task_steps.specs.Turning.{Goes, Reaches, Stops, Tells, answer_of, reached_by, turned_to}
-use Rattle.task_steps.specs.declared.answers.Answered.{Answered}
+use Rattle.task_steps.specs.Turning.{Goes, Stops, Tells, TurnsTo, answer_of, turn_result_of, turned_to}
+use Rattle.task_steps.specs.declared.answers.StepResult.{StepResult}
 
 module _ (consts : WorldConsts) (t : Tasked) (i file : ℕ) (func : Func) (mask : ℕ) (old new : State)
     (passes : PassesValue)
@@ -48,15 +48,15 @@ module _ (consts : WorldConsts) (t : Tasked) (i file : ℕ) (func : Func) (mask 
   rules = rules_with (scene_of consts []) old.added
 
   -- the action of the check, if the inode has this journal
-  abbrev action_on : Site → List Event → Action
+  abbrev action_on : InodeConsts → List Event → Action
   action_on s journal =
-      decided rules p.cred (super_at consts s.place) (metadata (past journal)) func mask
+      decided rules p.cred (super_at consts s.place) (metadata (newest_first journal)) func mask
 
-  abbrev check_on : Site → List Event → Deed
+  abbrev check_on : InodeConsts → List Event → Deed
   check_on s journal = deed.Check file func (action_on s journal) (length rules)
 
   -- the check was made, and the journal was this
-  module _ (s : Site) (there : slice_get consts.sites i ≡ Some s) (a : Answered)
+  module _ (s : InodeConsts) (there : slice_get consts.each_inode i ≡ Some s) (a : StepResult)
       (journal : List Event)
       (e : EventOn consts i s who (check_on s journal) old new t.passes passes t.hash_state
       t.hash_state (Some a.told)) (is : e.journal ≡ journal)
@@ -77,21 +77,21 @@ module _ (consts : WorldConsts) (t : Tasked) (i file : ℕ) (func : Func) (mask 
         }) (sym by.action)
 
     tells : Some a.told
-        ≡ outcome (inode_in consts s) old.list (check_on s journal) (past e.journal)
+        ≡ outcome (inode_in consts s) old.list (check_on s journal) (newest_first e.journal)
     tells =
         by.told
         ∙ ap (λ (xs : List Event). outcome (inode_in consts s) old.list (check_on s journal)
-        (past xs)) (sym is)
+        (newest_first xs)) (sym is)
 
     goes : Goes consts t old (turned_to new
         (hear (mode_in consts) p t.mind.thought (answer_of a count)) turns.Moved)
     goes programs =
         let scene = scene_of consts programs in
-        ap (go_step scene t.number p old t.mind.thought) st
-        ∙ ap (λ (x : Option Station).
-        go_check scene t.number p old t.mind.thought i x file func mask)
-        (get_map (station_of consts) consts.sites i s there)
-        ∙ ap (λ (xs : List Event). go_event scene t.number p old t.mind.thought i
+        ap (step_due scene t.number p old t.mind.thought) st
+        ∙ ap (λ (x : Option ScriptFile).
+        step_check scene t.number p old t.mind.thought i x file func mask)
+        (get_map (script_file_of consts) consts.each_inode i s there)
+        ∙ ap (λ (xs : List Event). step_event scene t.number p old t.mind.thought i
         (inode_in consts s) (check_on s xs) (action_on s xs) count)
         (get_or_from_slice_get old.journals i e.journal [] e.journal_at ∙ is)
         ∙ goes_event consts t i s (check_on s journal) old new passes t.hash_state (Some a.told) e
@@ -115,41 +115,41 @@ module _ (consts : WorldConsts) (t : Tasked) (i file : ℕ) (func : Func) (mask 
     }
 
   -- on an inode that isn't there the turn is blocked
-  none_stops : slice_get consts.sites i ≡ None → new ≡ old → passes ≡ t.passes
+  none_stops : slice_get consts.each_inode i ≡ None → new ≡ old → passes ≡ t.passes
       → Stops consts t old new passes t.hash_state turns.Blocked
   none_stops there e f = record {
     plays = same_left consts t passes t.hash_state f refl;
     goes = λ programs.
         let scene = scene_of consts programs in
-        ap (go_step scene t.number p old t.mind.thought) st
-        ∙ ap (λ (x : Option Station).
-        go_check scene t.number p old t.mind.thought i x file func mask)
-        (get_map_none (station_of consts) consts.sites i there)
+        ap (step_due scene t.number p old t.mind.thought) st
+        ∙ ap (λ (x : Option ScriptFile).
+        step_check scene t.number p old t.mind.thought i x file func mask)
+        (get_map_none (script_file_of consts) consts.each_inode i there)
         ∙ ap (λ (x : State). turned_to x t.mind.thought turns.Blocked) (sym e);
   }
 
-  by_site : {E : Type 0} (r : Result (Option Answered) E) (o : Option Site)
-      → slice_get consts.sites i ≡ o
+  by_inode_consts : {E : Type 0} (r : Result (Option StepResult) E) (o : Option InodeConsts)
+      → slice_get consts.each_inode i ≡ o
       → CheckIn consts i o who p.cred asked old new t.passes passes t.hash_state r
-      → Reaches consts t old new passes t.hash_state (reached_by r)
-  by_site (Ok (Some a)) None there c = absurd (no_told a c.told) where
-    no_told : (b : Answered) → Some b.told ≡ None → ⊥
+      → TurnsTo consts t old new passes t.hash_state (turn_result_of r)
+  by_inode_consts (Ok (Some a)) None there c = absurd (no_told a c.told) where
+    no_told : (b : StepResult) → Some b.told ≡ None → ⊥
     no_told b q = cc
-  by_site (Ok None) None there c = none_stops there c.state c.left
-  by_site (Err y) None there c =
+  by_inode_consts (Ok None) None there c = none_stops there c.state c.left
+  by_inode_consts (Err y) None there c =
       record { plays = same_left consts t passes t.hash_state c.left refl; state = c.state }
-  by_site (Ok (Some a)) (Some s) there c =
+  by_inode_consts (Ok (Some a)) (Some s) there c =
       check_tells s there a c.journal c.event
       (same_Some c.event.journal c.journal (sym c.event.journal_at ∙ c.journal_at)) c.told c.seen
-  by_site (Ok None) (Some s) there c = absurd c.told
-  by_site (Err y) (Some s) there c = record {
+  by_inode_consts (Ok None) (Some s) there c = absurd c.told
+  by_inode_consts (Err y) (Some s) there c = record {
     plays = λ h x. none_is_played consts t h i s (check_on s c.journal) old new passes
         t.hash_state x (subst (IsStepFor i (check_on s c.journal)) (sym st) refl) there c.event;
     state = c.event.state ∙ unmoved consts i s who (check_on s c.journal) old;
   }
 
-  pub check_reaches : {E : Type 0} (r : Result (Option Answered) E)
-      → CheckIn consts i (slice_get consts.sites i) who p.cred asked old new t.passes passes
+  pub check_reaches : {E : Type 0} (r : Result (Option StepResult) E)
+      → CheckIn consts i (slice_get consts.each_inode i) who p.cred asked old new t.passes passes
       t.hash_state r
-      → Reaches consts t old new passes t.hash_state (reached_by r)
-  check_reaches r c = by_site r (slice_get consts.sites i) refl c
+      → TurnsTo consts t old new passes t.hash_state (turn_result_of r)
+  check_reaches r c = by_inode_consts r (slice_get consts.each_inode i) refl c

@@ -4,7 +4,7 @@ use Rattle.std.specs.Prelude.{slice_get, unwrap_or}
 use Rattle.std.proofs.lemmas.Option.{get_or_from_slice_get}
 use Rattle.inode_events.specs.Asked.{outcome}
 use Rattle.inode_events.specs.Checks.{no_action}
-use Rattle.inode_events.specs.Past.{past}
+use Rattle.inode_events.specs.NewestFirst.{newest_first}
 use Rattle.inode_events.specs.declared.deed.Deed.{Deed}
 use Rattle.inode_events.specs.declared.told.Event.{Event}
 use Rattle.inode_events.specs.declared.told.Told.{Told}
@@ -13,13 +13,13 @@ use Rattle.call_steps.specs.Mind.{Does}
 use Rattle.call_steps.specs.Steps.{given}
 use Rattle.policy_rules.specs.declared.access.Action.{Action}
 use Rattle.run_model.specs.History.{Answer, Thought, hear, plain_answer, step_at, who_at}
-use Rattle.run_model.specs.Scene.{Program, Station}
-use Rattle.run_model.specs.Turns.{State, go, go_does, go_event, go_step, hear_told, journal_at, state_on, turn_of}
+use Rattle.run_model.specs.Scene.{Program, ScriptFile}
+use Rattle.run_model.specs.Turns.{State, hear_told, journal_at, state_on, step_does, step_due, step_event, step_task, turn_of}
 use Rattle.run_model.specs.declared.turn.Turn.TheVariants as turns
 use Rattle.task_steps.specs.Acting.{IsPlacedAt}
 use Rattle.task_steps.specs.Turning.{Fails, Stops, Tells, answer_of, turned_to}
-use Rattle.task_steps.specs.declared.answers.Answered.{Answered}
-use Rattle.task_steps.specs.worlds.WorldConsts.{Site, WorldConsts, inode_in, mode_in, scene_of, station_of}
+use Rattle.task_steps.specs.declared.answers.StepResult.{StepResult}
+use Rattle.task_steps.specs.worlds.WorldConsts.{InodeConsts, WorldConsts, inode_in, mode_in, scene_of, script_file_of}
 use Rattle.task_steps.specs.worlds.Tasks.{HasPlayed, PassesValue, Tasked, action_by}
 use Rattle.task_steps.specs.worlds.declared.hash_state.HashState.{HashState}
 use Rattle.task_steps.proofs.about_worlds.Blocking.{none_is_played}
@@ -27,21 +27,21 @@ use Rattle.task_steps.proofs.about_worlds.Eventing.{event_is_played, get_map}
 use Rattle.task_steps.specs.worlds.Events.{EventOn}
 use Rattle.task_steps.specs.worlds.Plays.{HasHeard, IsStepFor, task_after}
 
-module _ (consts : WorldConsts) (t : Tasked) (i : ℕ) (s : Site) (d : Deed) (old new : State)
+module _ (consts : WorldConsts) (t : Tasked) (i : ℕ) (s : InodeConsts) (d : Deed) (old new : State)
     (passes : PassesValue) (g : HashState) (o : Option Told)
     (e : EventOn consts i s (who_at t.number t.mind.program t.mind.thought.mind) d old new t.passes
     passes t.hash_state g o)
-    (there : slice_get consts.sites i ≡ Some s)
-    (tells : o ≡ outcome (inode_in consts s) old.list d (past e.journal)) where
+    (there : slice_get consts.each_inode i ≡ Some s)
+    (tells : o ≡ outcome (inode_in consts s) old.list d (newest_first e.journal)) where
   abbrev p : Program
   p = t.mind.program
 
   journal_is : journal_at old i ≡ e.journal
   journal_is = get_or_from_slice_get old.journals i e.journal [] e.journal_at
 
-  outcome_is : outcome (inode_in consts s) old.list d (past (journal_at old i)) ≡ o
+  outcome_is : outcome (inode_in consts s) old.list d (newest_first (journal_at old i)) ≡ o
   outcome_is =
-      ap (λ (xs : List Event). outcome (inode_in consts s) old.list d (past xs)) journal_is
+      ap (λ (xs : List Event). outcome (inode_in consts s) old.list d (newest_first xs)) journal_is
       ∙ sym tells
 
   abbrev heard : Action → ℕ → Thought
@@ -50,7 +50,7 @@ module _ (consts : WorldConsts) (t : Tasked) (i : ℕ) (s : Site) (d : Deed) (ol
 
   -- the turn of the task makes this event
   pub goes_event : (programs : List Program) (action : Action) (rules : ℕ)
-      → go_event (scene_of consts programs) t.number p old t.mind.thought i (inode_in consts s) d
+      → step_event (scene_of consts programs) t.number p old t.mind.thought i (inode_in consts s) d
       action rules ≡ turned_to new (heard action rules) (turn_of o)
   goes_event programs action rules =
       let who = who_at t.number p t.mind.thought.mind in
@@ -64,18 +64,18 @@ module _ (consts : WorldConsts) (t : Tasked) (i : ℕ) (s : Site) (d : Deed) (ol
 
   -- the turn of a step that does this deed
   goes_does : step_at p t.mind.thought.mind ≡ Some (Does i d) → (programs : List Program)
-      → go (scene_of consts programs) t.number p old t.mind.thought
+      → step_task (scene_of consts programs) t.number p old t.mind.thought
       ≡ turned_to new (heard no_action 0) (turn_of o)
   goes_does st programs =
       let scene = scene_of consts programs in
-      ap (go_step scene t.number p old t.mind.thought) st
-      ∙ ap (λ (x : Option Station). go_does scene t.number p old t.mind.thought i x d)
-      (get_map (station_of consts) consts.sites i s there)
+      ap (step_due scene t.number p old t.mind.thought) st
+      ∙ ap (λ (x : Option ScriptFile). step_does scene t.number p old t.mind.thought i x d)
+      (get_map (script_file_of consts) consts.each_inode i s there)
       ∙ goes_event programs no_action 0
 
 -- ---- a deed that was done, was blocked, or ran out of memory
 
-pub answer_same : (a : Answered) (place : ℕ) → a.place ≡ place → a.action ≡ None
+pub answer_same : (a : StepResult) (place : ℕ) → a.place ≡ place → a.action ≡ None
     → plain_answer place a.told ≡ answer_of a 0
 answer_same a place e f =
     ap (λ (k : ℕ). plain_answer k a.told) (sym e)
@@ -86,13 +86,13 @@ answer_same a place e f =
       rules = 0;
     }) (sym f)
 
-pub does_tells : (consts : WorldConsts) (t : Tasked) (i : ℕ) (s : Site) (d : Deed) (old new : State)
-    (passes : PassesValue) (g : HashState) (a : Answered)
+pub does_tells : (consts : WorldConsts) (t : Tasked) (i : ℕ) (s : InodeConsts) (d : Deed)
+    (old new : State) (passes : PassesValue) (g : HashState) (a : StepResult)
     → step_at t.mind.program t.mind.thought.mind ≡ Some (Does i d)
-    → slice_get consts.sites i ≡ Some s
+    → slice_get consts.each_inode i ≡ Some s
     → (e : EventOn consts i s (who_at t.number t.mind.program t.mind.thought.mind) d old new
     t.passes passes t.hash_state g (Some a.told))
-    → Some a.told ≡ outcome (inode_in consts s) old.list d (past e.journal)
+    → Some a.told ≡ outcome (inode_in consts s) old.list d (newest_first e.journal)
     → IsPlacedAt (length e.journal) (Some a) → Tells consts t old new passes g a
 does_tells consts t i s d old new passes g a st there e tells at =
     let same : plain_answer (length e.journal) a.told ≡ answer_of a 0 =
@@ -111,13 +111,13 @@ does_tells consts t i s d old new passes g a st there e tells at =
           (hear (mode_in consts) t.mind.program t.mind.thought b) turns.Moved) same;
     }
 
-pub does_blocks : (consts : WorldConsts) (t : Tasked) (i : ℕ) (s : Site) (d : Deed)
+pub does_blocks : (consts : WorldConsts) (t : Tasked) (i : ℕ) (s : InodeConsts) (d : Deed)
     (old new : State) (passes : PassesValue) (g : HashState)
     → step_at t.mind.program t.mind.thought.mind ≡ Some (Does i d)
-    → slice_get consts.sites i ≡ Some s
+    → slice_get consts.each_inode i ≡ Some s
     → (e : EventOn consts i s (who_at t.number t.mind.program t.mind.thought.mind) d old new
     t.passes passes t.hash_state g None)
-    → None ≡ outcome (inode_in consts s) old.list d (past e.journal)
+    → None ≡ outcome (inode_in consts s) old.list d (newest_first e.journal)
     → Stops consts t old new passes g turns.Blocked
 does_blocks consts t i s d old new passes g st there e tells = record {
   plays = λ h x. none_is_played consts t h i s d old new passes g x
@@ -125,10 +125,10 @@ does_blocks consts t i s d old new passes g st there e tells = record {
   goes = goes_does consts t i s d old new passes g None e there tells st;
 }
 
-pub does_fails : (consts : WorldConsts) (t : Tasked) (i : ℕ) (s : Site) (d : Deed) (old new : State)
-    (passes : PassesValue) (g : HashState)
+pub does_fails : (consts : WorldConsts) (t : Tasked) (i : ℕ) (s : InodeConsts) (d : Deed)
+    (old new : State) (passes : PassesValue) (g : HashState)
     → step_at t.mind.program t.mind.thought.mind ≡ Some (Does i d)
-    → slice_get consts.sites i ≡ Some s
+    → slice_get consts.each_inode i ≡ Some s
     → EventOn consts i s (who_at t.number t.mind.program t.mind.thought.mind) d old new
     t.passes passes t.hash_state g None
     → new ≡ old → Fails consts t old new passes g

@@ -12,7 +12,7 @@ use Rattle.world_model.specs.inodes.answers.declared.answers.Piece.TheVariants a
 use Rattle.inode_events.specs.Asked.{made}
 use Rattle.inode_events.specs.Inode.{Inode}
 use Rattle.inode_events.specs.Integrity.{Collection, chosen_algo, collected_more, collecting, collection_of, digest_from}
-use Rattle.inode_events.specs.Past.{past, past_more}
+use Rattle.inode_events.specs.NewestFirst.{newest_first, past_more}
 use Rattle.inode_events.specs.State.{content}
 use Rattle.inode_events.specs.declared.deed.Deed.{Deed}
 use Rattle.inode_events.specs.declared.deed.Deed.TheVariants as deed
@@ -50,19 +50,19 @@ summed_same (hash_state.Done chosen sha1) a b x y h = (
 -- the journal after one more event
 after : (list list2 : List Event) (who : Who) (d : Deed) (t : Told)
     → list2 ≡ list ++ made who d (Some t)
-    → past list2 ≡ record { who = who; deed = d; told = t } ∷ past list
+    → newest_first list2 ≡ record { who = who; deed = d; told = t } ∷ newest_first list
 after list list2 who d t e =
-    ap past e ∙ past_more list (record { who = who; deed = d; told = t })
+    ap newest_first e ∙ past_more list (record { who = who; deed = d; told = t })
 
 module _ (inode : Inode) (list : List Event) (g g2 : HashState) (page : List ℕ)
-    (c : Collects inode (past list) (HasTakenIn g))
-    (taken : (k : Collection) → collecting inode (past list) ≡ Some k
-    → page ≡ piece_at (content (past list)) k.pieces) where
+    (c : Collects inode (newest_first list) (HasTakenIn g))
+    (taken : (k : Collection) → collecting inode (newest_first list) ≡ Some k
+    → page ≡ piece_at (content (newest_first list)) k.pieces) where
   -- the collection with its next piece
   abbrev more : Bool → Collection
   more complete = record c.collection {
     pieces = c.collection.pieces + 1;
-    bytes = c.collection.bytes ++ piece_at (content (past list)) c.collection.pieces;
+    bytes = c.collection.bytes ++ piece_at (content (newest_first list)) c.collection.pieces;
     complete = complete;
   }
 
@@ -70,13 +70,13 @@ module _ (inode : Inode) (list : List Event) (g g2 : HashState) (page : List ℕ
   paged = record c.collection { bytes = c.collection.bytes ++ page }
 
   same_bytes : paged.bytes ≡ c.collection.bytes
-      ++ piece_at (content (past list)) c.collection.pieces
+      ++ piece_at (content (newest_first list)) c.collection.pieces
   same_bytes =
       ap (λ (x : List ℕ). c.collection.bytes ++ x) (taken c.collection c.is_open)
 
-  is_more : (complete : Bool) → collected_more (content (past list)) complete
-      (collecting inode (past list)) ≡ Some (more complete)
-  is_more complete = ap (collected_more (content (past list)) complete) c.is_open
+  is_more : (complete : Bool) → collected_more (content (newest_first list)) complete
+      (collecting inode (newest_first list)) ≡ Some (more complete)
+  is_more complete = ap (collected_more (content (newest_first list)) complete) c.is_open
 
   pub piece_left : (file : ℕ) (who : Who) (list2 : List Event) (p : Piece)
       → list2 ≡ list ++ made who (deed.Chunk file) (Some (piece_told p))
@@ -118,10 +118,11 @@ module _ (inode : Inode) (list : List Event) (g g2 : HashState) (page : List ℕ
 
 pub take_left : (inode : Inode) (list list2 : List Event) (file : ℕ) (who : Who) (h : Hashing)
     (algo : Algo) → list2 ≡ list ++ made who (deed.Take file) (Some told.Begun)
-    → algo ≡ chosen_algo inode (past list) → HasHashed h algo []
+    → algo ≡ chosen_algo inode (newest_first list) → HasHashed h algo []
     → HashesAfter inode list2 (hash_state.Running h) (deed.Take file) told.Begun
 take_left inode list list2 file who h algo e a x = record {
-  collection = collection_of file false (chosen_algo inode (past list)) (length (past list));
+  collection = collection_of file false (chosen_algo inode (newest_first list))
+      (length (newest_first list));
   is_open = ap (collecting inode) (after list list2 who (deed.Take file) told.Begun e);
   has = subst (λ (k : Algo). HasHashed h k []) a x;
 }
@@ -131,7 +132,7 @@ pub close_left : (inode : Inode) (list list2 : List Event) (file : ℕ) (who : W
     → algo ≡ inode.settings.hash → HasHashed h algo []
     → HashesAfter inode list2 (hash_state.Running h) (deed.CloseTake file) told.Begun
 close_left inode list list2 file who h algo e a x = record {
-  collection = collection_of file true inode.settings.hash (length (past list));
+  collection = collection_of file true inode.settings.hash (length (newest_first list));
   is_open = ap (collecting inode) (after list list2 who (deed.CloseTake file) told.Begun e);
   has = subst (λ (k : Algo). HasHashed h k []) a x;
 }

@@ -8,10 +8,10 @@ use Rattle.inode_events.specs.Inode.{Inode}
 use Rattle.inode_events.specs.declared.told.Event.{Event}
 use Rattle.policy_cell.specs.declared.cell.RuleEntry.{RuleEntry}
 use Rattle.grow_list.specs.Shown.{Passed}
-use Rattle.task_steps.specs.laws_of_runs.Stations.{StationRules}
-use Rattle.task_steps.specs.Looking.{AreSameStations, IsSameStation, SameAt}
-use Rattle.task_steps.specs.worlds.WorldConsts.{Site, WorldConsts}
-use Rattle.task_steps.specs.worlds.World.{IsStation, StationValue, journal_of, site_of}
+use Rattle.task_steps.specs.laws_of_runs.ScriptFiles.{ScriptFileRules}
+use Rattle.task_steps.specs.Looking.{AreSameWorldInodes, IsSameWorldInode, SameAt}
+use Rattle.task_steps.specs.worlds.WorldConsts.{InodeConsts, WorldConsts}
+use Rattle.task_steps.specs.worlds.World.{IsWorldInode, WorldInodeValue, inode_consts_of, journal_of}
 
 -- lists of the same length with the same element at each place are equal
 same_lists : {A : Type 0} (xs ys : List A) → length xs ≡ length ys
@@ -32,8 +32,8 @@ map_get f (x ∷ xs) zero b h = (x, (refl, same_Some (f x) b h))
 map_get f (x ∷ xs) (suc k) b h = map_get f xs k b h
 
 -- a function that a look preserves for each inode is preserved for all
-pub kept_map : {B : Type 0} (f : StationValue → B) (old new : List StationValue)
-    → AreSameStations old new → ((a b : StationValue) → IsSameStation a b → f b ≡ f a)
+pub kept_map : {B : Type 0} (f : WorldInodeValue → B) (old new : List WorldInodeValue)
+    → AreSameWorldInodes old new → ((a b : WorldInodeValue) → IsSameWorldInode a b → f b ≡ f a)
     → map f new ≡ map f old
 kept_map f old new k e =
     same_lists (map f new) (map f old)
@@ -45,8 +45,9 @@ kept_map f old new k e =
     let same : c.before ≡ b.0 = same_Some c.before b.0 (sym c.at ∙ b.1.0) in
     sym a.1.1 ∙ e c.before a.0 c.kept ∙ ap f same ∙ b.1.1)
 
-pub site_kept : (a b : StationValue) → IsSameStation a b → site_of b ≡ site_of a
-site_kept a b k =
+pub inode_consts_kept : (a b : WorldInodeValue) → IsSameWorldInode a b
+    → inode_consts_of b ≡ inode_consts_of a
+inode_consts_kept a b k =
     ap (λ (x : Inode). record {
       path = x.path;
       birth = x.birth;
@@ -66,10 +67,10 @@ site_kept a b k =
       journal = x;
     }) k.cell.journal
 
-pub station_kept : (consts : WorldConsts) (i : ℕ) (a b : StationValue) → IsSameStation a b
-    → IsStation consts i a → IsStation consts i b
-station_kept consts i a b k s = record {
-  site = s.site ∙ ap (λ (x : Site). Some x) (sym (site_kept a b k));
+pub world_inode_kept : (consts : WorldConsts) (i : ℕ) (a b : WorldInodeValue) → IsSameWorldInode a b
+    → IsWorldInode consts i a → IsWorldInode consts i b
+world_inode_kept consts i a b k s = record {
+  inode_consts = s.inode_consts ∙ ap (λ (x : InodeConsts). Some x) (sym (inode_consts_kept a b k));
   settings = ap (λ (x : Inode). x.settings) k.cell.inode ∙ s.settings;
   place = subst (λ (n : ℕ). n < length consts.supers) (sym k.place) s.place;
   callers = k.cell.callers ∙ s.callers;
@@ -78,23 +79,24 @@ station_kept consts i a b k s = record {
   rules_name = ap (λ (q : Passed RuleEntry). q.name) k.rules ∙ s.rules_name;
   rules_number = ap (λ (q : Passed RuleEntry). q.number) k.rules ∙ s.rules_number;
   rules_mine = ap (λ (q : Passed RuleEntry). q.mine) k.rules ∙ s.rules_mine;
-  rise = subst (λ (q : Passed RuleEntry). StationRules (length consts.base) b.cell.list q.seen)
+  rise = subst (λ (q : Passed RuleEntry). ScriptFileRules (length consts.base) b.cell.list q.seen)
       (sym k.rules)
-      (subst (λ (xs : List Event). StationRules (length consts.base) xs a.rules.seen) (sym k.list)
-      s.rise);
+      (subst (λ (xs : List Event). ScriptFileRules (length consts.base) xs a.rules.seen)
+      (sym k.list) s.rise);
 }
 
-pub stations_kept : (consts : WorldConsts) (old new : List StationValue) → AreSameStations old new
-    → ((i : ℕ) (s : StationValue) → slice_get old i ≡ Some s → IsStation consts i s)
-    → (i : ℕ) (s : StationValue) → slice_get new i ≡ Some s → IsStation consts i s
-stations_kept consts old new k f i s h =
+pub world_inodes_kept : (consts : WorldConsts) (old new : List WorldInodeValue)
+    → AreSameWorldInodes old new
+    → ((i : ℕ) (s : WorldInodeValue) → slice_get old i ≡ Some s → IsWorldInode consts i s)
+    → (i : ℕ) (s : WorldInodeValue) → slice_get new i ≡ Some s → IsWorldInode consts i s
+world_inodes_kept consts old new k f i s h =
     let c : SameAt old i s = k.each i s h in
-    station_kept consts i c.before s c.kept (f i c.before c.at)
+    world_inode_kept consts i c.before s c.kept (f i c.before c.at)
 
-pub journals_kept : (old new : List StationValue) → AreSameStations old new
+pub journals_kept : (old new : List WorldInodeValue) → AreSameWorldInodes old new
     → map journal_of new ≡ map journal_of old
 journals_kept old new k = kept_map journal_of old new k (λ a b c. c.list)
 
-pub sites_kept : (old new : List StationValue) → AreSameStations old new
-    → map site_of new ≡ map site_of old
-sites_kept old new k = kept_map site_of old new k site_kept
+pub each_inode_kept : (old new : List WorldInodeValue) → AreSameWorldInodes old new
+    → map inode_consts_of new ≡ map inode_consts_of old
+each_inode_kept old new k = kept_map inode_consts_of old new k inode_consts_kept

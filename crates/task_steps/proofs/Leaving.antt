@@ -8,7 +8,7 @@ use Rattle.world_model.specs.inodes.Acts.{Acts, Stays}
 use Rattle.world_model.specs.inodes.Value.{CellValue, IsSameCell}
 use Rattle.inode_events.specs.Asked.{asked, entered, list_after, made, outcome}
 use Rattle.inode_events.specs.Inode.{Inode}
-use Rattle.inode_events.specs.Past.{past}
+use Rattle.inode_events.specs.NewestFirst.{newest_first}
 use Rattle.inode_events.specs.declared.deed.Deed.{Deed}
 use Rattle.inode_events.specs.declared.told.Event.{Event}
 use Rattle.inode_events.specs.declared.told.Told.{Told}
@@ -68,8 +68,9 @@ leaves_looked old between new list list2 pass pass1 pass2 who d o journal same m
     record {
       journal = x.journal ∙ ap (λ (xs : List Event). xs ++ made who d o) journal;
       book = x.book
-          ∙ ap (λ (i : Inode). list_after list (asked i d (past between.list)) o) same.inode
-          ∙ ap (λ (xs : List Event). list_after list (asked old.inode d (past xs)) o) journal;
+          ∙ ap (λ (i : Inode). list_after list (asked i d (newest_first between.list)) o) same.inode
+          ∙ ap (λ (xs : List Event). list_after list (asked old.inode d (newest_first xs)) o)
+          journal;
       seen = x.seen;
       mine = x.mine
           ∙ ap (λ (xs : List (ℕ × Event)). xs ++ entered (length between.list) who d o) mine
@@ -99,7 +100,7 @@ leaves_alone old new pass pass2 who d (Err x) a s e list =
 -- an outcome that holds for every measurement list holds for this one
 pub told_at : {E : Type 0} (inode : Inode) (journal : List Event) (d : Deed)
     (r : Result (Option Told) E)
-    → IfOk r (λ o. (list : List Entry) → o ≡ outcome inode list d (past journal))
-    → (list : List Entry) → IfOk r (λ o. o ≡ outcome inode list d (past journal))
+    → IfOk r (λ o. (list : List Entry) → o ≡ outcome inode list d (newest_first journal))
+    → (list : List Entry) → IfOk r (λ o. o ≡ outcome inode list d (newest_first journal))
 told_at inode journal d (Ok o) a list = a list
 told_at inode journal d (Err x) a list = tt

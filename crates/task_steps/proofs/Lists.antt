@@ -11,7 +11,7 @@ use Rattle.ima_templates.specs.declared.entry.Entry.{Entry}
 use Rattle.inode_meta.specs.declared.step.Who.{Who}
 use Rattle.inode_events.specs.Asked.{asked, list_after, made}
 use Rattle.inode_events.specs.Inode.{Inode}
-use Rattle.inode_events.specs.Past.{past}
+use Rattle.inode_events.specs.NewestFirst.{newest_first}
 use Rattle.inode_events.specs.declared.deed.Deed.{Deed}
 use Rattle.inode_events.specs.declared.settings.Settings.{Settings}
 use Rattle.inode_events.specs.declared.told.Event.{Event}
@@ -21,13 +21,13 @@ use Rattle.policy_cell.specs.declared.cell.RuleEntry.{RuleEntry}
 use Rattle.policy_rules.specs.declared.access.Super.{Super}
 use Rattle.task_steps.proofs.laws_of_runs.Owned.{set_parts}
 use Rattle.task_steps.proofs.laws_of_runs.Risen.{law_rise_by_outcome}
-use Rattle.task_steps.specs.laws_of_runs.Stations.{CountsAll, StationRules}
+use Rattle.task_steps.specs.laws_of_runs.ScriptFiles.{CountsAll, ScriptFileRules}
 use Rattle.run_model.specs.Turns.{State, state_on}
-use Rattle.task_steps.specs.Acting.{EventIn, StationDid}
+use Rattle.task_steps.specs.Acting.{EventIn, WorldInodeDid}
 use Rattle.world_model.specs.Parts.{AreParts, consts_by, state_by}
-use Rattle.task_steps.specs.worlds.WorldConsts.{Site, WorldConsts, boot_in, inode_in}
+use Rattle.task_steps.specs.worlds.WorldConsts.{InodeConsts, WorldConsts, boot_in, inode_in}
 use Rattle.task_steps.specs.worlds.Tasks.{PassesValue}
-use Rattle.task_steps.specs.worlds.World.{IsStation, StationValue, journal_of, site_of}
+use Rattle.task_steps.specs.worlds.World.{IsWorldInode, WorldInodeValue, inode_consts_of, journal_of}
 use Rattle.task_steps.specs.worlds.declared.hash_state.HashState.{HashState}
 use Rattle.task_steps.proofs.about_worlds.Eventing.{get_map}
 use Rattle.task_steps.specs.worlds.Events.{EventOn}
@@ -68,27 +68,27 @@ listed_first (x ∷ xs) b (Some e) (Some t) h =
 
 -- ---- one inode
 
-module _ (settings : Settings) (stations : List StationValue) (supers : List Super)
+module _ (settings : Settings) (world_inodes : List WorldInodeValue) (supers : List Super)
     (book book2 : Grown Entry) (sems : Grown Event) (rules : PolicyValue) (tasks i : ℕ)
-    (st st2 : StationValue) (pass pass2 : Passed Event) (listed listed2 : Passed Entry) (who : Who)
-    (d : Deed) (g g2 : HashState) (o : Option Told)
-    (parts : AreParts (consts_by settings stations supers book sems rules tasks) stations book sems
-    rules) (there : slice_get stations i ≡ Some st)
-    (did : StationDid st st2 book book2 pass pass2 listed listed2 who d g g2 o) where
+    (st st2 : WorldInodeValue) (pass pass2 : Passed Event) (listed listed2 : Passed Entry)
+    (who : Who) (d : Deed) (g g2 : HashState) (o : Option Told)
+    (parts : AreParts (consts_by settings world_inodes supers book sems rules tasks) world_inodes
+    book sems rules) (there : slice_get world_inodes i ≡ Some st)
+    (did : WorldInodeDid st st2 book book2 pass pass2 listed listed2 who d g g2 o) where
   abbrev F : WorldConsts
-  F = consts_by settings stations supers book sems rules tasks
+  F = consts_by settings world_inodes supers book sems rules tasks
 
-  abbrev stations2 : List StationValue
-  stations2 = slice_set stations i st2
+  abbrev world_inodes2 : List WorldInodeValue
+  world_inodes2 = slice_set world_inodes i st2
 
   first : (ys : List Entry) × (book2.list ≡ F.boot ∷ ys)
   first =
       let a = listed_first book.list F.boot
-      (asked st.cell.inode d (past st.cell.list)) o parts.book.boot in
+      (asked st.cell.inode d (newest_first st.cell.list)) o parts.book.boot in
       (a.0, did.leaves.book ∙ a.1)
 
-  site_same : site_of st2 ≡ site_of st
-  site_same =
+  inode_consts_same : inode_consts_of st2 ≡ inode_consts_of st
+  inode_consts_same =
       ap (λ (x : Inode). record {
         path = x.path;
         birth = x.birth;
@@ -109,22 +109,26 @@ module _ (settings : Settings) (stations : List StationValue) (supers : List Sup
       }) did.leaves.same.journal
 
   -- the constants stay the same
-  pub consts_same : consts_by settings stations2 supers book2 sems rules tasks ≡ F
+  pub consts_same : consts_by settings world_inodes2 supers book2 sems rules tasks ≡ F
   consts_same =
-      ap (λ (xs : List Site). record F { boot = boot_in book2.list; sites = xs; book = book2.name })
-      (map_same site_of stations i st st2 there site_same)
+      ap (λ (xs : List InodeConsts). record F {
+        boot = boot_in book2.list;
+        each_inode = xs;
+        book = book2.name;
+      })
+      (map_same inode_consts_of world_inodes i st st2 there inode_consts_same)
       ∙ ap (λ (e : Entry). record F { boot = e; book = book2.name }) (ap boot_in first.1)
       ∙ ap (λ (x : ListName). record F { book = x }) did.book_name
 
   -- the inode still belongs to the constants
-  pub station_same : CountsAll (length F.base + length st.rules.seen) d → IsStation F i st2
-  station_same counts =
-      let old : IsStation F i st = parts.stations i st there in
-      let rise : StationRules (length F.base) (st.cell.list ++ made who d o) st.rules.seen =
+  pub world_inode_same : CountsAll (length F.base + length st.rules.seen) d → IsWorldInode F i st2
+  world_inode_same counts =
+      let old : IsWorldInode F i st = parts.world_inodes i st there in
+      let rise : ScriptFileRules (length F.base) (st.cell.list ++ made who d o) st.rules.seen =
       law_rise_by_outcome (length F.base) st.cell.list st.rules.seen st.rules.seen who d o
       (prefix_refl st.rules.seen) old.rise counts in
       record {
-        site = old.site ∙ ap (λ (x : Site). Some x) (sym site_same);
+        inode_consts = old.inode_consts ∙ ap (λ (x : InodeConsts). Some x) (sym inode_consts_same);
         settings = ap (λ (x : Inode). x.settings) did.leaves.same.inode ∙ old.settings;
         place = subst (λ (k : ℕ). k < length F.supers) (sym did.place) old.place;
         callers = did.leaves.same.callers ∙ old.callers;
@@ -133,18 +137,18 @@ module _ (settings : Settings) (stations : List StationValue) (supers : List Sup
         rules_name = ap (λ (q : Passed RuleEntry). q.name) did.rules ∙ old.rules_name;
         rules_number = ap (λ (q : Passed RuleEntry). q.number) did.rules ∙ old.rules_number;
         rules_mine = ap (λ (q : Passed RuleEntry). q.mine) did.rules ∙ old.rules_mine;
-        rise = subst (λ (q : Passed RuleEntry). StationRules (length F.base) st2.cell.list q.seen)
-            (sym did.rules)
-            (subst (λ (xs : List Event). StationRules (length F.base) xs st.rules.seen)
+        rise = subst (λ (q : Passed RuleEntry). ScriptFileRules (length F.base)
+            st2.cell.list q.seen) (sym did.rules)
+            (subst (λ (xs : List Event). ScriptFileRules (length F.base) xs st.rules.seen)
             (sym did.leaves.journal) rise);
       }
 
   -- all parts still belong to the constants
   pub parts_same : CountsAll (length F.base + length st.rules.seen) d
-      → AreParts F stations2 book2 sems rules
+      → AreParts F world_inodes2 book2 sems rules
   parts_same counts = record {
-    stations = λ j s h.
-        at j s (set_parts stations i j st2 s h (slice_get_within stations i st there));
+    world_inodes = λ j s h.
+        at j s (set_parts world_inodes i j st2 s h (slice_get_within world_inodes i st there));
     book = record {
       name = did.book_name;
       boot = ap (λ (xs : List Entry). slice_get xs 0) first.1;
@@ -153,49 +157,50 @@ module _ (settings : Settings) (stations : List StationValue) (supers : List Sup
     sems = parts.sems;
     rules = parts.rules;
   } where
-    at : (j : ℕ) (s : StationValue)
-        → ((j ≡ i) × (s ≡ st2)) ⊎ ((i ≢ j) × (slice_get stations j ≡ Some s)) → IsStation F j s
+    at : (j : ℕ) (s : WorldInodeValue)
+        → ((j ≡ i) × (s ≡ st2)) ⊎ ((i ≢ j) × (slice_get world_inodes j ≡ Some s))
+        → IsWorldInode F j s
     at j s (inl x) =
-        subst (λ (k : ℕ). IsStation F k s) (sym x.0)
-        (subst (λ (z : StationValue). IsStation F i z) (sym x.1) (station_same counts))
-    at j s (inr x) = parts.stations j s x.1
+        subst (λ (k : ℕ). IsWorldInode F k s) (sym x.0)
+        (subst (λ (z : WorldInodeValue). IsWorldInode F i z) (sym x.1) (world_inode_same counts))
+    at j s (inr x) = parts.world_inodes j s x.1
 
   pub world_same : CountsAll (length F.base + length st.rules.seen) d
-      → AreParts (consts_by settings stations2 supers book2 sems rules tasks) stations2 book2 sems
-      rules
+      → AreParts (consts_by settings world_inodes2 supers book2 sems rules tasks) world_inodes2
+      book2 sems rules
   world_same counts =
-      subst (λ (x : WorldConsts). AreParts x stations2 book2 sems rules) (sym consts_same)
+      subst (λ (x : WorldConsts). AreParts x world_inodes2 book2 sems rules) (sym consts_same)
       (parts_same counts)
 
   abbrev S : State
-  S = state_by stations book sems rules
+  S = state_by world_inodes book sems rules
 
   journal_there : slice_get S.journals i ≡ Some st.cell.list
-  journal_there = get_map journal_of stations i st there
+  journal_there = get_map journal_of world_inodes i st there
 
   -- the lists are those after a turn
-  pub state_same : state_by stations2 book2 sems rules ≡ state_on S i st.cell.inode who d o
+  pub state_same : state_by world_inodes2 book2 sems rules ≡ state_on S i st.cell.inode who d o
   state_same =
       let here : get_or S.journals i [] ≡ st.cell.list =
       get_or_from_slice_get S.journals i st.cell.list [] journal_there in
       ap (λ (js : List (List Event)). record S { journals = js; list = book2.list })
-      (map_set journal_of stations i st2
+      (map_set journal_of world_inodes i st2
       ∙ ap (λ (xs : List Event). slice_set S.journals i xs)
       (did.leaves.journal ∙ ap (λ (xs : List Event). xs ++ made who d o) (sym here)))
       ∙ ap (λ (xs : List Entry). record S {
         journals = slice_set S.journals i (get_or S.journals i [] ++ made who d o);
         list = xs;
       }) (did.leaves.book
-      ∙ ap (λ (xs : List Event). list_after book.list (asked st.cell.inode d (past xs)) o)
+      ∙ ap (λ (xs : List Event). list_after book.list (asked st.cell.inode d (newest_first xs)) o)
       (sym here))
 
-  inode_same : inode_in F (site_of st) ≡ st.cell.inode
+  inode_same : inode_in F (inode_consts_of st) ≡ st.cell.inode
   inode_same =
       ap (λ (x : Settings). record {
         path = st.cell.inode.path;
         settings = x;
         birth = st.cell.inode.birth;
-      }) (sym (parts.stations i st there).settings)
+      }) (sym (parts.world_inodes i st there).settings)
 
   -- the effect of the deed, from the view of its task
   pub event_on : (passes passes2 : PassesValue) → slice_get passes.inodes i ≡ Some pass
@@ -203,7 +208,8 @@ module _ (settings : Settings) (stations : List StationValue) (supers : List Sup
       → Adds passes.rules passes2.rules [] → IsPrefix passes.rules.seen passes2.rules.seen
       → passes.book ≡ listed → passes2.book ≡ listed2
       → pass.number ≡ who.task + 1
-      → EventOn F i (site_of st) who d S (state_by stations2 book2 sems rules) passes passes2 g g2 o
+      → EventOn F i (inode_consts_of st) who d S (state_by world_inodes2 book2 sems rules) passes
+      passes2 g g2 o
   event_on passes passes2 at inodes semaphores appended more before after number = record {
     journal = st.cell.list;
     journal_at = journal_there;
@@ -234,15 +240,16 @@ module _ (settings : Settings) (stations : List StationValue) (supers : List Sup
         did.hashes);
   }
 
-  -- the effect of the deed at the own site of the constants of this number
+  -- the effect of the deed at the own constants of this number
   pub event_in : (passes passes2 : PassesValue) → slice_get passes.inodes i ≡ Some pass
       → passes2.inodes ≡ slice_set passes.inodes i pass2 → passes2.sems ≡ passes.sems
       → Adds passes.rules passes2.rules [] → IsPrefix passes.rules.seen passes2.rules.seen
       → passes.book ≡ listed → passes2.book ≡ listed2
       → pass.number ≡ who.task + 1
-      → EventIn F i (slice_get F.sites i) who d S (state_by stations2 book2 sems rules) passes
-      passes2 g g2 o
+      → EventIn F i (slice_get F.each_inode i) who d S
+      (state_by world_inodes2 book2 sems rules) passes passes2 g g2 o
   event_in passes passes2 at inodes semaphores appended more before after number =
-      subst (λ (x : Option Site). EventIn F i x who d S (state_by stations2 book2 sems rules) passes
-      passes2 g g2 o) (sym (get_map site_of stations i st there))
+      subst (λ (x : Option InodeConsts). EventIn F i x who d S
+      (state_by world_inodes2 book2 sems rules) passes
+      passes2 g g2 o) (sym (get_map inode_consts_of world_inodes i st there))
       (event_on passes passes2 at inodes semaphores appended more before after number)

@@ -6,10 +6,10 @@ use Rattle.std.proofs.lemmas.Option.{slice_get_within}
 use Rattle.grow_list.specs.Shown.{Passed}
 use Rattle.inode_events.specs.declared.told.Event.{Event}
 use Rattle.task_steps.proofs.laws_of_runs.Owned.{set_parts}
-use Rattle.task_steps.specs.worlds.World.{StationValue}
-use Rattle.task_steps.specs.Looking.{HaveLooked, HaveLookedTo, IsLooked, IsSameStation, LookedAt, SameAt}
+use Rattle.task_steps.specs.worlds.World.{WorldInodeValue}
+use Rattle.task_steps.specs.Looking.{HaveLooked, HaveLookedTo, IsLooked, IsSameWorldInode, LookedAt, SameAt}
 
-same_kept : (s : StationValue) → IsSameStation s s
+same_kept : (s : WorldInodeValue) → IsSameWorldInode s s
 same_kept s = record {
   cell = record { inode = refl; journal = refl; callers = refl; book = refl; booked = refl };
   list = refl;
@@ -18,9 +18,9 @@ same_kept s = record {
 }
 
 -- before the first look
-pub looks_init : (stations : List StationValue) (passes : List (Passed Event))
-    → HaveLookedTo 0 stations stations passes passes
-looks_init stations passes = record {
+pub looks_init : (world_inodes : List WorldInodeValue) (passes : List (Passed Event))
+    → HaveLookedTo 0 world_inodes world_inodes passes passes
+looks_init world_inodes passes = record {
   kept = record {
     even = refl;
     each = λ i s h. record { before = s; at = h; kept = same_kept s };
@@ -28,7 +28,7 @@ looks_init stations passes = record {
   even = refl;
   below = λ i q l h. absurd (omega arith);
   after = λ i l. refl;
-  after_stations = λ i l. refl;
+  after_world_inodes = λ i l. refl;
 }
 
 set_after : {A : Type 0} (xs : List A) (n i : ℕ) (x : A) → n < i
@@ -40,45 +40,45 @@ set_after (y ∷ ys) (suc n) zero x l = absurd (omega arith)
 set_after (y ∷ ys) (suc n) (suc i) x l = set_after ys n i x (omega arith)
 
 -- after one more look
-pub looks_more : (n : ℕ) (stations stations2 : List StationValue) (old new : List (Passed Event))
-    (s s2 : StationValue) (q q2 : Passed Event)
-    → HaveLookedTo n stations stations2 old new
-    → slice_get stations2 n ≡ Some s → slice_get new n ≡ Some q → IsSameStation s s2
+pub looks_more : (n : ℕ) (world_inodes world_inodes2 : List WorldInodeValue)
+    (old new : List (Passed Event)) (s s2 : WorldInodeValue) (q q2 : Passed Event)
+    → HaveLookedTo n world_inodes world_inodes2 old new
+    → slice_get world_inodes2 n ≡ Some s → slice_get new n ≡ Some q → IsSameWorldInode s s2
     → IsLooked s q q2
-    → HaveLookedTo (n + 1) stations (slice_set stations2 n s2) old (slice_set new n q2)
-looks_more n stations stations2 old new s s2 q q2 h at there kept looked = record {
+    → HaveLookedTo (n + 1) world_inodes (slice_set world_inodes2 n s2) old (slice_set new n q2)
+looks_more n world_inodes world_inodes2 old new s s2 q q2 h at there kept looked = record {
   kept = record {
-    even = length-set stations2 n s2 ∙ h.kept.even;
+    even = length-set world_inodes2 n s2 ∙ h.kept.even;
     each = λ i z e. kept_at i z
-        (set_parts stations2 n i s2 z e (slice_get_within stations2 n s at));
+        (set_parts world_inodes2 n i s2 z e (slice_get_within world_inodes2 n s at));
   };
   even = length-set new n q2 ∙ h.even;
   below = λ i z l e. looked_at i z l (set_parts new n i q2 z e (slice_get_within new n q there));
   after = λ i l. set_after new n i q2 (omega arith) ∙ h.after i (omega arith);
-  after_stations = λ i l.
-      set_after stations2 n i s2 (omega arith) ∙ h.after_stations i (omega arith);
+  after_world_inodes = λ i l.
+      set_after world_inodes2 n i s2 (omega arith) ∙ h.after_world_inodes i (omega arith);
 } where
-  was : slice_get stations n ≡ Some s
-  was = sym (h.after_stations n (omega arith)) ∙ at
+  was : slice_get world_inodes n ≡ Some s
+  was = sym (h.after_world_inodes n (omega arith)) ∙ at
 
-  kept_at : (i : ℕ) (z : StationValue)
-      → ((i ≡ n) × (z ≡ s2)) ⊎ ((n ≢ i) × (slice_get stations2 i ≡ Some z))
-      → SameAt stations i z
+  kept_at : (i : ℕ) (z : WorldInodeValue)
+      → ((i ≡ n) × (z ≡ s2)) ⊎ ((n ≢ i) × (slice_get world_inodes2 i ≡ Some z))
+      → SameAt world_inodes i z
   kept_at i z (inl x) = record {
     before = s;
-    at = ap (slice_get stations) x.0 ∙ was;
-    kept = subst (IsSameStation s) (sym x.1) kept;
+    at = ap (slice_get world_inodes) x.0 ∙ was;
+    kept = subst (IsSameWorldInode s) (sym x.1) kept;
   }
   kept_at i z (inr x) = h.kept.each i z x.1
 
   looked_at : (i : ℕ) (z : Passed Event) → i < n + 1
       → ((i ≡ n) × (z ≡ q2)) ⊎ ((n ≢ i) × (slice_get new i ≡ Some z))
-      → LookedAt stations old i z
+      → LookedAt world_inodes old i z
   looked_at i z l (inl x) = record {
     before = q;
     at = ap (slice_get old) x.0 ∙ sym (h.after n (omega arith)) ∙ there;
-    station = s;
-    station_at = ap (slice_get stations) x.0 ∙ was;
+    world_inode = s;
+    world_inode_at = ap (slice_get world_inodes) x.0 ∙ was;
     looked = subst (IsLooked s q) (sym x.1) looked;
   }
   looked_at i z l (inr x) = h.below i z (lower i l x.0) x.1 where
@@ -86,10 +86,11 @@ looks_more n stations stations2 old new s s2 q q2 h at there kept looked = recor
     lower j a b = omega arith
 
 -- after the last look
-pub looks_end : (n : ℕ) (stations stations2 : List StationValue) (old new : List (Passed Event))
-    → HaveLookedTo n stations stations2 old new → length new ≤ n
-    → HaveLooked stations old new
-looks_end n stations stations2 old new h l = record {
+pub looks_end : (n : ℕ) (world_inodes world_inodes2 : List WorldInodeValue)
+    (old new : List (Passed Event))
+    → HaveLookedTo n world_inodes world_inodes2 old new → length new ≤ n
+    → HaveLooked world_inodes old new
+looks_end n world_inodes world_inodes2 old new h l = record {
   even = h.even;
   each = λ i q e. h.below i q (within i q e) e;
 } where

@@ -7,14 +7,14 @@ use Rattle.inode_events.specs.declared.told.Event.{Event}
 use Rattle.inode_meta.specs.declared.step.Who.{Who}
 use Rattle.call_steps.specs.Mind.{Does}
 use Rattle.run_model.specs.History.{Answer, step_at, who_at}
-use Rattle.run_model.specs.Scene.{Station}
-use Rattle.run_model.specs.Turns.{State, go_does, go_step, state_on}
+use Rattle.run_model.specs.Scene.{ScriptFile}
+use Rattle.run_model.specs.Turns.{State, state_on, step_does, step_due}
 use Rattle.run_model.specs.declared.turn.Turn.TheVariants as turns
 use Rattle.task_steps.proofs.Going.{does_blocks, does_fails, does_tells}
 use Rattle.task_steps.specs.Acting.{told_in}
-use Rattle.task_steps.specs.Turning.{Reaches, Stops, reached_by}
-use Rattle.task_steps.specs.declared.answers.Answered.{Answered}
-use Rattle.task_steps.specs.worlds.WorldConsts.{Site, WorldConsts, inode_in, scene_of, station_of}
+use Rattle.task_steps.specs.Turning.{Stops, TurnsTo, turn_result_of}
+use Rattle.task_steps.specs.declared.answers.StepResult.{StepResult}
+use Rattle.task_steps.specs.worlds.WorldConsts.{InodeConsts, WorldConsts, inode_in, scene_of, script_file_of}
 use Rattle.task_steps.specs.worlds.Tasks.{HasPlayed, PassesValue, Tasked}
 use Rattle.task_steps.specs.worlds.declared.hash_state.HashState.{HashState}
 use Rattle.task_steps.specs.Acting.{EventIn, IsSaid}
@@ -27,7 +27,7 @@ get_map_none f (x ∷ xs) zero h = absurd (cc)
 get_map_none f (x ∷ xs) (suc k) h = get_map_none f xs k h
 
 -- a deed without an event leaves the lists as they were
-pub unmoved : (consts : WorldConsts) (i : ℕ) (s : Site) (who : Who) (d : Deed) (old : State)
+pub unmoved : (consts : WorldConsts) (i : ℕ) (s : InodeConsts) (who : Who) (d : Deed) (old : State)
     → state_on old i (inode_in consts s) who d None ≡ old
 unmoved consts i s who d old =
     ap (λ (js : List (List Event)). record old { journals = js })
@@ -49,42 +49,42 @@ module _ (consts : WorldConsts) (t : Tasked) (i : ℕ) (d : Deed) (old new : Sta
   who = who_at t.number t.mind.program t.mind.thought.mind
 
   -- on an inode that isn't there the turn is blocked
-  none_stops : slice_get consts.sites i ≡ None → new ≡ old → passes ≡ t.passes → g ≡ t.hash_state
-      → Stops consts t old new passes g turns.Blocked
+  none_stops : slice_get consts.each_inode i ≡ None → new ≡ old → passes ≡ t.passes
+      → g ≡ t.hash_state → Stops consts t old new passes g turns.Blocked
   none_stops there e f k = record {
     plays = same_left consts t passes g f k;
     goes = λ programs.
         let scene = scene_of consts programs in
-        ap (go_step scene t.number t.mind.program old t.mind.thought) st
-        ∙ ap (λ (x : Option Station).
-        go_does scene t.number t.mind.program old t.mind.thought i x d)
-        (get_map_none (station_of consts) consts.sites i there)
+        ap (step_due scene t.number t.mind.program old t.mind.thought) st
+        ∙ ap (λ (x : Option ScriptFile).
+        step_does scene t.number t.mind.program old t.mind.thought i x d)
+        (get_map_none (script_file_of consts) consts.each_inode i there)
         ∙ ap (λ (x : State). record { state = x; thought = t.mind.thought; turn = turns.Blocked })
         (sym e);
   }
 
-  by_site : {E : Type 0} (r : Result (Option Answered) E) (o : Option Site)
-      → slice_get consts.sites i ≡ o
+  by_inode_consts : {E : Type 0} (r : Result (Option StepResult) E) (o : Option InodeConsts)
+      → slice_get consts.each_inode i ≡ o
       → EventIn consts i o who d old new t.passes passes t.hash_state g (told_in r)
-      → IfOk r (IsSaid consts i d old) → Reaches consts t old new passes g (reached_by r)
-  by_site (Ok (Some a)) None there e x = absurd (no_told a e.told) where
-    no_told : (b : Answered) → Some b.told ≡ None → ⊥
+      → IfOk r (IsSaid consts i d old) → TurnsTo consts t old new passes g (turn_result_of r)
+  by_inode_consts (Ok (Some a)) None there e x = absurd (no_told a e.told) where
+    no_told : (b : StepResult) → Some b.told ≡ None → ⊥
     no_told b q = cc
-  by_site (Ok None) None there e x = none_stops there e.state e.left e.hash_state
-  by_site (Err y) None there e x =
+  by_inode_consts (Ok None) None there e x = none_stops there e.state e.left e.hash_state
+  by_inode_consts (Err y) None there e x =
       record { plays = same_left consts t passes g e.left e.hash_state; state = e.state }
-  by_site (Ok (Some a)) (Some s) there e x =
+  by_inode_consts (Ok (Some a)) (Some s) there e x =
       let said = x s e.journal there e.journal_at in
       does_tells consts t i s d old new passes g a st there e said.0 said.1
-  by_site (Ok None) (Some s) there e x =
+  by_inode_consts (Ok None) (Some s) there e x =
       let said = x s e.journal there e.journal_at in
       does_blocks consts t i s d old new passes g st there e said.0
-  by_site (Err y) (Some s) there e x =
+  by_inode_consts (Err y) (Some s) there e x =
       does_fails consts t i s d old new passes g st there e
       (e.state ∙ unmoved consts i s who d old)
 
-  pub does_reaches : {E : Type 0} (r : Result (Option Answered) E)
-      → EventIn consts i (slice_get consts.sites i) who d old new t.passes passes t.hash_state g
-      (told_in r)
-      → IfOk r (IsSaid consts i d old) → Reaches consts t old new passes g (reached_by r)
-  does_reaches r e x = by_site r (slice_get consts.sites i) refl e x
+  pub does_reaches : {E : Type 0} (r : Result (Option StepResult) E)
+      → EventIn consts i (slice_get consts.each_inode i) who d old new t.passes passes
+      t.hash_state g (told_in r)
+      → IfOk r (IsSaid consts i d old) → TurnsTo consts t old new passes g (turn_result_of r)
+  does_reaches r e x = by_inode_consts r (slice_get consts.each_inode i) refl e x

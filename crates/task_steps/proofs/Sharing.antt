@@ -8,7 +8,7 @@ use Rattle.grow_list.proofs.Prefixes.{prefix_append, prefix_refl, prefix_trans}
 use Rattle.grow_list.specs.Shown.{Passed}
 use Rattle.inode_events.specs.Asked.{entered, made}
 use Rattle.inode_events.specs.Checks.{no_action}
-use Rattle.inode_events.specs.Past.{past}
+use Rattle.inode_events.specs.NewestFirst.{newest_first}
 use Rattle.inode_events.specs.Semaphores.{left, semaphore_says}
 use Rattle.inode_events.specs.declared.deed.Deed.{Deed}
 use Rattle.inode_events.specs.declared.deed.Deed.TheVariants as deed
@@ -25,13 +25,13 @@ use Rattle.task_steps.specs.laws_of_runs.Checks.{IsPlainStep, seen_by}
 use Rattle.run_model.specs.History.{Answer, hear, plain_answer, rule_in, signal_in, step_at, who_at}
 use Rattle.run_model.specs.Scene.{Program}
 use Rattle.policy_rules.specs.RuleValue.{RuleValue}
-use Rattle.run_model.specs.Turns.{State, go_step, hear_told, turn_of}
+use Rattle.run_model.specs.Turns.{State, hear_told, step_due, turn_of}
 use Rattle.run_model.specs.declared.turn.Turn.TheVariants as turns
 use Rattle.task_steps.proofs.Going.{answer_same}
 use Rattle.task_steps.specs.Acting.{IsPlacedAt, told_in, told_of}
 use Rattle.task_steps.specs.Sharing.{AppendsTo, SignalsOn}
-use Rattle.task_steps.specs.Turning.{Reaches, Tells, answer_of, reached_by, turned_to}
-use Rattle.task_steps.specs.declared.answers.Answered.{Answered}
+use Rattle.task_steps.specs.Turning.{Tells, TurnsTo, answer_of, turn_result_of, turned_to}
+use Rattle.task_steps.specs.declared.answers.StepResult.{StepResult}
 use Rattle.task_steps.specs.worlds.WorldConsts.{WorldConsts, mode_in, scene_of}
 use Rattle.task_steps.specs.worlds.Tasks.{PassesValue, Tasked, action_by}
 use Rattle.task_steps.proofs.about_worlds.Eventing.{adds_none}
@@ -40,7 +40,7 @@ use Rattle.task_steps.specs.worlds.Quiet.{IsQuiet, QuietLeft, QuietPasses}
 use Rattle.task_steps.specs.worlds.Steps.{Adds}
 
 -- if a step isn't a check, its answer has no action, and the action of the last check remains
-checked_quiet : (t : ActionValue) (a : Answered) (o : Option Step) → IsQuiet o → a.action ≡ None
+checked_quiet : (t : ActionValue) (a : StepResult) (o : Option Step) → IsQuiet o → a.action ≡ None
     → unwrap_or a.action t ≡ action_by o (answer_of a 0) t
 checked_quiet t a (Some Nothing) q e = ap (λ (x : Option Action). unwrap_or x t) e
 checked_quiet t a (Some (Signals d)) q e = ap (λ (x : Option Action). unwrap_or x t) e
@@ -67,10 +67,10 @@ module _ (consts : WorldConsts) (t : Tasked) where
   who = who_at t.number t.mind.program t.mind.thought.mind
 
   -- a quiet step that was made, by its answer
-  quiet_tells : (old new : State) (passes : PassesValue) (a : Answered) (place : ℕ)
+  quiet_tells : (old new : State) (passes : PassesValue) (a : StepResult) (place : ℕ)
       → IsQuiet due → a.place ≡ place → a.action ≡ None
       → QuietPasses consts t passes (plain_answer place a.told)
-      → ((programs : List Program) → go_step (scene_of consts programs) t.number t.mind.program old
+      → ((programs : List Program) → step_due (scene_of consts programs) t.number t.mind.program old
       t.mind.thought due ≡ turned_to new
       (hear (mode_in consts) t.mind.program t.mind.thought (plain_answer place a.told))
       turns.Moved)
@@ -88,7 +88,7 @@ module _ (consts : WorldConsts) (t : Tasked) where
       }
 
   -- a step that does nothing was made
-  pub nothing_tells : (old : State) (a : Answered) → due ≡ Some Nothing → a.place ≡ 0
+  pub nothing_tells : (old : State) (a : StepResult) → due ≡ Some Nothing → a.place ≡ 0
       → a.told ≡ told.Nothing → a.action ≡ None
       → Tells consts t old old t.passes t.hash_state a
   nothing_tells old a st e k f =
@@ -108,7 +108,7 @@ module _ (consts : WorldConsts) (t : Tasked) where
             (ap (plain_answer 0) k);
       })
       (λ programs.
-      ap (go_step (scene_of consts programs) t.number t.mind.program old t.mind.thought) st
+      ap (step_due (scene_of consts programs) t.number t.mind.program old t.mind.thought) st
       ∙ ap (λ (z : Told). turned_to old
       (hear (mode_in consts) t.mind.program t.mind.thought (plain_answer 0 z)) turns.Moved) (sym k))
 
@@ -143,13 +143,13 @@ module _ (consts : WorldConsts) (t : Tasked) where
     }
 
     signals_go : (o : Option Told) → SignalsOn old new t.passes passes who d o
-        → o ≡ semaphore_says (past old.signals) d → (programs : List Program)
-        → go_step (scene_of consts programs) t.number t.mind.program old t.mind.thought due
+        → o ≡ semaphore_says (newest_first old.signals) d → (programs : List Program)
+        → step_due (scene_of consts programs) t.number t.mind.program old t.mind.thought due
         ≡ turned_to new
         (hear_told (mode_in consts) t.mind.program t.mind.thought (length old.signals)
         no_action 0 o) (turn_of o)
     signals_go o e f programs =
-        ap (go_step (scene_of consts programs) t.number t.mind.program old t.mind.thought) st
+        ap (step_due (scene_of consts programs) t.number t.mind.program old t.mind.thought) st
         ∙ ap (λ (z : Option Told). turned_to (record old { signals = old.signals ++ made who d z })
         (hear_told (mode_in consts) t.mind.program t.mind.thought (length old.signals)
         no_action 0 z) (turn_of z)) (sym f)
@@ -157,15 +157,15 @@ module _ (consts : WorldConsts) (t : Tasked) where
         (hear_told (mode_in consts) t.mind.program t.mind.thought (length old.signals)
         no_action 0 o) (turn_of o)) (sym e.state)
 
-    pub signals_reach : {E : Type 0} (r : Result (Option Answered) E)
+    pub signals_reach : {E : Type 0} (r : Result (Option StepResult) E)
         → SignalsOn old new t.passes passes who d (told_in r)
-        → IfOk r (λ o. (told_of o ≡ semaphore_says (past old.signals) d)
+        → IfOk r (λ o. (told_of o ≡ semaphore_says (newest_first old.signals) d)
         × IsPlacedAt (length old.signals) o)
-        → Reaches consts t old new passes t.hash_state (reached_by r)
+        → TurnsTo consts t old new passes t.hash_state (turn_result_of r)
     signals_reach (Ok (Some a)) e x =
         quiet_tells old new passes a (length old.signals) (subst IsQuiet (sym st) tt) x.1.0 x.1.1
-        (signals_quiet (Some a.told) e a.told refl (is_done (past old.signals) d a.told (sym x.0)))
-        (signals_go (Some a.told) e x.0)
+        (signals_quiet (Some a.told) e a.told refl
+        (is_done (newest_first old.signals) d a.told (sym x.0))) (signals_go (Some a.told) e x.0)
     signals_reach (Ok None) e x = record {
       plays = λ h y. quiet_is_left consts t h passes y (signals_left e);
       goes = signals_go None e x.0;
@@ -210,7 +210,7 @@ module _ (consts : WorldConsts) (t : Tasked) where
         }
 
     -- the answer to an appended rule
-    pub appends_tells : (a : Answered) → AppendsTo old new t.passes passes entry
+    pub appends_tells : (a : StepResult) → AppendsTo old new t.passes passes entry
         → (a.place ≡ length old.added) × (a.told ≡ told.Done) × (a.action ≡ None)
         → Tells consts t old new passes t.hash_state a
     appends_tells a e x =
@@ -218,7 +218,7 @@ module _ (consts : WorldConsts) (t : Tasked) where
         (subst (λ (u : Told). QuietPasses consts t passes (plain_answer (length old.added) u))
         (sym x.1) (appends_quiet e))
         (λ programs.
-        ap (go_step (scene_of consts programs) t.number t.mind.program old t.mind.thought) st
+        ap (step_due (scene_of consts programs) t.number t.mind.program old t.mind.thought) st
         ∙ ap (λ (y : State). turned_to y
         (hear (mode_in consts) t.mind.program t.mind.thought
         (plain_answer (length old.added) told.Done)) turns.Moved) (sym e.state)

@@ -5,7 +5,7 @@ use Rattle.grow_list.specs.Shown.{Passed}
 use Rattle.ima_templates.specs.declared.entry.Entry.{Entry}
 use Rattle.world_model.specs.inodes.Value.{CellValue, IsSameCell}
 use Rattle.inode_events.specs.Asked.{asked, entered, list_after, made}
-use Rattle.inode_events.specs.Past.{past}
+use Rattle.inode_events.specs.NewestFirst.{newest_first}
 use Rattle.inode_events.specs.declared.deed.Deed.{Deed}
 use Rattle.inode_events.specs.declared.told.Event.{Event}
 use Rattle.inode_events.specs.declared.told.Told.{Told}
@@ -25,7 +25,7 @@ told_by f (Err e) = None
 pub record Leaves (old new : CellValue) (list list2 : List Entry) (pass pass2 : Passed Event)
     (who : Who) (d : Deed) (o : Option Told) : Type 0 where
   pub journal : new.list ≡ old.list ++ made who d o
-  pub book : list2 ≡ list_after list (asked old.inode d (past old.list)) o
+  pub book : list2 ≡ list_after list (asked old.inode d (newest_first old.list)) o
   pub seen : pass2.seen ≡ new.list
   pub mine : pass2.mine ≡ pass.mine ++ entered (length old.list) who d o
   pub pass_name : pass2.name ≡ pass.name

@@ -3,12 +3,12 @@ use Rattle.std.specs.Prelude.{◌≡◌, ℕ, List, ◌∷◌, Option, Some, Non
 use Rattle.call_steps.specs.Steps.{given}
 use Rattle.run_model.specs.History.{Answer, Thought, hear, step_at}
 use Rattle.run_model.specs.Scene.{Program}
-use Rattle.run_model.specs.Turns.{State, Turned, go}
+use Rattle.run_model.specs.Turns.{State, Turned, step_task}
 use Rattle.run_model.specs.declared.turn.Turn.{Turn}
 use Rattle.run_model.specs.declared.turn.Turn.TheVariants as turns
-use Rattle.task_steps.specs.declared.answers.Answered.{Answered}
-use Rattle.task_steps.specs.declared.answers.Reached.{Reached}
-use Rattle.task_steps.specs.declared.answers.Reached.TheVariants as reached
+use Rattle.task_steps.specs.declared.answers.StepResult.{StepResult}
+use Rattle.task_steps.specs.declared.answers.TurnResult.{TurnResult}
+use Rattle.task_steps.specs.declared.answers.TurnResult.TheVariants as turn_result
 use Rattle.task_steps.specs.worlds.WorldConsts.{WorldConsts, mode_in, scene_of}
 use Rattle.task_steps.specs.worlds.Tasks.{HasPlayed, PassesValue, Tasked, action_by}
 use Rattle.task_steps.specs.worlds.declared.hash_state.HashState.{HashState}
@@ -21,16 +21,16 @@ turned_to state thought turn = record { state = state; thought = thought; turn =
 -- one turn of the task, whatever the programs of the others are
 abbrev pub Goes : WorldConsts → Tasked → State → Turned → Type 0
 Goes consts t old after = (programs : List Program)
-    → go (scene_of consts programs) t.number t.mind.program old t.mind.thought ≡ after
+    → step_task (scene_of consts programs) t.number t.mind.program old t.mind.thought ≡ after
 
 -- the answer to a step; for a check, `rules` is the number of rules in force
-abbrev pub answer_of : Answered → ℕ → Answer
+abbrev pub answer_of : StepResult → ℕ → Answer
 answer_of a rules =
     record { place = a.place; told = a.told; action = given a.action; rules = rules }
 
 -- the step was made with this answer
 pub record Tells (consts : WorldConsts) (t : Tasked) (old new : State) (passes : PassesValue)
-    (g : HashState) (a : Answered) : Type 0 where
+    (g : HashState) (a : StepResult) : Type 0 where
   pub rules : ℕ
   -- only a check has an action
   pub checked : unwrap_or a.action t.mind.checked
@@ -56,16 +56,16 @@ pub record Fails (consts : WorldConsts) (t : Tasked) (old new : State) (passes :
   pub plays : StillPlays consts t passes g
   pub state : new ≡ old
 
-abbrev pub Reaches : {E : Type 0} → WorldConsts → Tasked → State → State → PassesValue → HashState
-    → Result Reached E → Type 0
-Reaches consts t old new passes g (Ok (reached.Told a)) = Tells consts t old new passes g a
-Reaches consts t old new passes g (Ok reached.Blocked) =
+abbrev pub TurnsTo : {E : Type 0} → WorldConsts → Tasked → State → State → PassesValue → HashState
+    → Result TurnResult E → Type 0
+TurnsTo consts t old new passes g (Ok (turn_result.Told a)) = Tells consts t old new passes g a
+TurnsTo consts t old new passes g (Ok turn_result.Blocked) =
     Stops consts t old new passes g turns.Blocked
-Reaches consts t old new passes g (Ok reached.Over) = Stops consts t old new passes g turns.Done
-Reaches consts t old new passes g (Err e) = Fails consts t old new passes g
+TurnsTo consts t old new passes g (Ok turn_result.Over) = Stops consts t old new passes g turns.Done
+TurnsTo consts t old new passes g (Err e) = Fails consts t old new passes g
 
 -- how a turn ended, by the answer to its step
-abbrev pub reached_by : {E : Type 0} → Result (Option Answered) E → Result Reached E
-reached_by (Ok (Some a)) = Ok (reached.Told a)
-reached_by (Ok None) = Ok reached.Blocked
-reached_by (Err e) = Err e
+abbrev pub turn_result_of : {E : Type 0} → Result (Option StepResult) E → Result TurnResult E
+turn_result_of (Ok (Some a)) = Ok (turn_result.Told a)
+turn_result_of (Ok None) = Ok turn_result.Blocked
+turn_result_of (Err e) = Err e

@@ -3,44 +3,44 @@
 ghost use Rattle.std.specs.Prelude.{◌≡◌, ◌+◌, List, IfOk, length};
 ghost use Rattle.ima_templates.specs.declared.entry.Entry.{Entry as AnyEntry};
 ghost use Rattle.inode_events.specs.Asked.{outcome};
-ghost use Rattle.inode_events.specs.Past.{past};
+ghost use Rattle.inode_events.specs.NewestFirst.{newest_first};
 ghost use Rattle.task_steps.specs.Hashed.{IsAloneDeed};
 ghost use Rattle.task_steps.specs.worlds.Ready.{HasLooked, IsReady};
 ghost use Rattle.task_steps.specs.minds.Steps.{deed_in};
-ghost use Rattle.task_steps.specs.Acting.{IsPlacedAt, StationDidAlone, told_in, told_of};
+ghost use Rattle.task_steps.specs.Acting.{IsPlacedAt, WorldInodeDidAlone, told_in, told_of};
 
-use crate::answers::{Answered, told_at};
+use crate::answers::{StepResult, told_at};
 use crate::{Actor, look_and_apply_alone};
 use grow_list::Pass;
 use inode_events::Event;
 use std::alloc::AllocError as OutOfMemory;
 use task_mind::Doing;
-use world_model::{HashState, Station};
+use world_model::{HashState, WorldInode};
 
 /// Does a deed that doesn't consult the measurement list on the inode, through its task's pass of
 /// the journal. `None` means that it is blocked.
 pub fn apply_alone_at(
-    station: &mut Station,
+    world_inode: &mut WorldInode,
     pass: &mut Pass<Event>,
     actor: &Actor<'_>,
     doing: Doing<'_>,
     hash_state: &mut HashState,
-) -> Result<Option<Answered>, OutOfMemory>
-    requires name { pass.old.name ≡ station.old.cell.journal }
+) -> Result<Option<StepResult>, OutOfMemory>
+    requires name { pass.old.name ≡ world_inode.old.cell.journal }
     requires number { pass.old.number ≡ actor.now.who.task + 1 }
-    requires ready { HasLooked station.old.cell.inode pass.old.number pass.old.seen
-        station.old.cell.list pass.old.mine
-        → IsReady station.old.cell.inode pass.old.number station.old.cell.list hash_state.old
-        actor.now.action actor.now.slot (deed_in doing) }
+    requires ready { HasLooked world_inode.old.cell.inode pass.old.number pass.old.seen
+        world_inode.old.cell.list pass.old.mine
+        → IsReady world_inode.old.cell.inode pass.old.number world_inode.old.cell.list
+        hash_state.old actor.now.action actor.now.slot (deed_in doing) }
     requires alone { IsAloneDeed (deed_in doing) }
-    ensures did { StationDidAlone station.old station.new pass.old pass.new actor.now.who
+    ensures did { WorldInodeDidAlone world_inode.old world_inode.new pass.old pass.new actor.now.who
         (deed_in doing.entry) hash_state.old hash_state.new (told_in result) }
     ensures told { IfOk result (λ o. (list : List AnyEntry) → told_of o
-        ≡ outcome station.old.cell.inode list (deed_in doing.entry)
-        (past station.old.cell.list)) }
-    ensures place { IfOk result (λ o. IsPlacedAt (length station.old.cell.list) o) }
+        ≡ outcome world_inode.old.cell.inode list (deed_in doing.entry)
+        (newest_first world_inode.old.cell.list)) }
+    ensures place { IfOk result (λ o. IsPlacedAt (length world_inode.old.cell.list) o) }
 {
-    let place = station.cell.len();
-    let told = look_and_apply_alone(&mut station.cell, pass, actor, doing, hash_state);
+    let place = world_inode.cell.len();
+    let told = look_and_apply_alone(&mut world_inode.cell, pass, actor, doing, hash_state);
     told_at(place, told)
 }

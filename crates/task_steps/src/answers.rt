@@ -1,7 +1,7 @@
 ghost use Rattle.std.specs.Prelude.{◌≡◌};
-ghost use Rattle.task_steps.specs.Acting.{answered_in};
+ghost use Rattle.task_steps.specs.Acting.{step_result_in};
 ghost use Rattle.task_steps.specs.Checking.{checked_in};
-ghost use Rattle.task_steps.specs.Turning.{reached_by};
+ghost use Rattle.task_steps.specs.Turning.{turn_result_of};
 
 use inode_events::Told;
 use policy_rules::Action;
@@ -9,7 +9,7 @@ use std::alloc::AllocError as OutOfMemory;
 
 /// The answer to a step.
 #[derive(Drop)]
-pub struct Answered {
+pub struct StepResult {
     /// The index of the step's event in its journal, or of its rule among the appended ones.
     pub place: u64,
     /// The outcome of the step.
@@ -20,24 +20,24 @@ pub struct Answered {
 
 /// How a turn ended.
 #[derive(Drop)]
-pub enum Reached {
+pub enum TurnResult {
     /// The program had no call left.
     Over,
     /// The step can't be made now.
     Blocked,
     /// The step was made, with this answer.
-    Told(Answered),
+    Told(StepResult),
 }
 
 /// The answer to a deed, with the place of its event. `None` means that it is blocked.
 pub fn told_at(
     place: u64,
     told: Result<Option<Told>, OutOfMemory>,
-) -> Result<Option<Answered>, OutOfMemory>
-    ensures { result ≡ answered_in place told }
+) -> Result<Option<StepResult>, OutOfMemory>
+    ensures { result ≡ step_result_in place told }
 {
     match told {
-        Ok(Some(told)) => Ok(Some(Answered {
+        Ok(Some(told)) => Ok(Some(StepResult {
             place,
             told,
             action: None,
@@ -51,11 +51,11 @@ pub fn told_at(
 pub fn checked_at(
     place: u64,
     told: Result<(Told, Action), OutOfMemory>,
-) -> Result<Option<Answered>, OutOfMemory>
+) -> Result<Option<StepResult>, OutOfMemory>
     ensures { result ≡ checked_in place told }
 {
     match told {
-        Ok((told, action)) => Ok(Some(Answered {
+        Ok((told, action)) => Ok(Some(StepResult {
             place,
             told,
             action: Some(action),
@@ -65,12 +65,14 @@ pub fn checked_at(
 }
 
 /// How the turn ended; a step that was blocked has no answer.
-pub fn reached_by(answered: Result<Option<Answered>, OutOfMemory>) -> Result<Reached, OutOfMemory>
-    ensures { result ≡ reached_by answered }
+pub fn turn_result_of(
+    answered: Result<Option<StepResult>, OutOfMemory>,
+) -> Result<TurnResult, OutOfMemory>
+    ensures { result ≡ turn_result_of answered }
 {
     match answered {
-        Ok(Some(answered)) => Ok(Reached::Told(answered)),
-        Ok(None) => Ok(Reached::Blocked),
+        Ok(Some(answered)) => Ok(TurnResult::Told(answered)),
+        Ok(None) => Ok(TurnResult::Blocked),
         Err(err) => Err(err),
     }
 }

@@ -4,14 +4,14 @@ ghost use Rattle.inode_events.specs.declared.deed.Deed.TheVariants as Deed;
 ghost use Rattle.std.specs.Prelude.{◌≡◌, ◌+◌};
 ghost use Rattle.task_steps.specs.inodes.Acts.{MayBy};
 ghost use Rattle.inode_events.specs.Checks.{no_action};
-ghost use Rattle.inode_events.specs.Past.{past};
+ghost use Rattle.inode_events.specs.NewestFirst.{newest_first};
 ghost use Rattle.inode_events.specs.State.{metadata};
 ghost use Rattle.task_steps.specs.worlds.declared.hash_state.HashState.{HashState as AnyHashState};
 ghost use Rattle.task_steps.specs.worlds.Ready.{HasLooked};
-ghost use Rattle.task_steps.specs.Acting.{StationDid, told_in};
+ghost use Rattle.task_steps.specs.Acting.{WorldInodeDid, told_in};
 ghost use Rattle.task_steps.specs.Checking.{IsChecked, check_by};
 
-use crate::answers::{Answered, checked_at};
+use crate::answers::{StepResult, checked_at};
 use crate::{Actor, Checks, look_and_check};
 use grow_list::Pass;
 use ima_templates::Entry;
@@ -20,12 +20,12 @@ use measure_book::Book;
 use policy_cell::matching::Index;
 use policy_rules::Super;
 use std::alloc::AllocError as OutOfMemory;
-use world_model::Station;
+use world_model::WorldInode;
 
 /// Makes the check on the inode, which is on this file system, through its task's passes of the
 /// journal and of the measurement list.
 pub fn check_at(
-    station: &mut Station,
+    world_inode: &mut WorldInode,
     pass: &mut Pass<Event>,
     book: &mut Book,
     listed: &mut Pass<Entry>,
@@ -33,25 +33,34 @@ pub fn check_at(
     asked: Checks,
     rules: &Index,
     place: &Super,
-) -> Result<Option<Answered>, OutOfMemory>
-    requires name { pass.old.name ≡ station.old.cell.journal }
+) -> Result<Option<StepResult>, OutOfMemory>
+    requires name { pass.old.name ≡ world_inode.old.cell.journal }
     requires number { pass.old.number ≡ actor.now.who.task + 1 }
-    requires book_name { station.old.cell.book ≡ book.old.name }
+    requires book_name { world_inode.old.cell.book ≡ book.old.name }
     requires listed { listed.old.name ≡ book.old.name }
-    requires ready { HasLooked station.old.cell.inode pass.old.number pass.old.seen
-        station.old.cell.list pass.old.mine
-        → MayBy station.old.cell pass.old.number
+    requires ready { HasLooked world_inode.old.cell.inode pass.old.number pass.old.seen
+        world_inode.old.cell.list pass.old.mine
+        → MayBy world_inode.old.cell pass.old.number
         (Deed.Check asked.file asked.func no_action 0) }
-    ensures did { (g : AnyHashState) → StationDid station.old station.new book.old book.new
+    ensures did { (g : AnyHashState)
+        → WorldInodeDid world_inode.old world_inode.new book.old book.new
         pass.old pass.new listed.old listed.new actor.now.who
-        (check_by rules.now actor.now.cred.now place.now (metadata (past station.old.cell.list))
-        asked) g g (told_in result) }
-    ensures told { IsChecked station.old.cell.inode station.old.cell.list book.old.list rules.now
-        actor.now.cred.now place.now asked result }
+        (check_by rules.now actor.now.cred.now place.now
+        (metadata (newest_first world_inode.old.cell.list)) asked) g g (told_in result) }
+    ensures told { IsChecked world_inode.old.cell.inode world_inode.old.cell.list
+        book.old.list rules.now actor.now.cred.now place.now asked result }
 {
-    let at = station.cell.len();
+    let at = world_inode.cell.len();
     book.look(listed);
-    let told = look_and_check(&mut station.cell, pass, actor, asked, rules, place, book);
+    let told = look_and_check(
+        &mut world_inode.cell,
+        pass,
+        actor,
+        asked,
+        rules,
+        place,
+        book,
+    );
     book.look(listed);
     checked_at(at, told)
 }

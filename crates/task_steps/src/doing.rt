@@ -5,7 +5,7 @@ ghost use Rattle.std.specs.Prelude.{◌≡◌, ◌+◌, List, length, Some, IfOk
 ghost use Rattle.world_model.specs.inodes.Acts.{MayBy};
 ghost use Rattle.inode_events.specs.Asked.{outcome};
 ghost use Rattle.inode_events.specs.Checks.{no_action};
-ghost use Rattle.inode_events.specs.Past.{past};
+ghost use Rattle.inode_events.specs.NewestFirst.{newest_first};
 ghost use Rattle.inode_events.specs.State.{metadata};
 ghost use Rattle.task_mind.specs.matching.Decision.{access_of, decide_of};
 ghost use Rattle.ima_templates.specs.declared.entry.Entry.{Entry as AnyEntry};
@@ -60,7 +60,7 @@ fn dispatch_alone(
     ensures leaves { (list : List AnyEntry) → Leaves cell.old cell.new list list pass.old pass.new
         actor.now.who (deed_in doing.entry) (told_in result) }
     ensures told { IfOk result (λ o. (list : List AnyEntry)
-        → o ≡ outcome cell.old.inode list (deed_in doing.entry) (past cell.old.list)) }
+        → o ≡ outcome cell.old.inode list (deed_in doing.entry) (newest_first cell.old.list)) }
     ensures hashes { HashesTold cell.old.inode cell.new.list hash_state.old hash_state.new
         (deed_in doing.entry) (told_in result) }
 {
@@ -100,7 +100,7 @@ fn dispatch(
     ensures leaves { Leaves cell.old cell.new book.old.list book.new.list pass.old pass.new
         actor.now.who (deed_in doing.entry) (told_in result) }
     ensures told { IfOk result (λ o. o
-        ≡ outcome cell.old.inode book.old.list (deed_in doing.entry) (past cell.old.list)) }
+        ≡ outcome cell.old.inode book.old.list (deed_in doing.entry) (newest_first cell.old.list)) }
     ensures hashes { HashesTold cell.old.inode cell.new.list hash_state.old hash_state.new
         (deed_in doing.entry) (told_in result) }
     ensures book { (book.new.name ≡ book.old.name) × (book.new.callers ≡ book.old.callers) }
@@ -148,7 +148,7 @@ pub fn look_and_apply(
     ensures leaves { Leaves cell.old cell.new book.old.list book.new.list pass.old pass.new
         actor.now.who (deed_in doing.entry) (told_in result) }
     ensures told { IfOk result (λ o. o
-        ≡ outcome cell.old.inode book.old.list (deed_in doing.entry) (past cell.old.list)) }
+        ≡ outcome cell.old.inode book.old.list (deed_in doing.entry) (newest_first cell.old.list)) }
     ensures hashes { HashesTold cell.old.inode cell.new.list hash_state.old hash_state.new
         (deed_in doing.entry) (told_in result) }
     ensures book { (book.new.name ≡ book.old.name) × (book.new.callers ≡ book.old.callers) }
@@ -178,7 +178,7 @@ pub fn look_and_apply_alone(
     ensures leaves { (list : List AnyEntry) → Leaves cell.old cell.new list list pass.old pass.new
         actor.now.who (deed_in doing.entry) (told_in result) }
     ensures told { IfOk result (λ o. (list : List AnyEntry)
-        → o ≡ outcome cell.old.inode list (deed_in doing.entry) (past cell.old.list)) }
+        → o ≡ outcome cell.old.inode list (deed_in doing.entry) (newest_first cell.old.list)) }
     ensures hashes { HashesTold cell.old.inode cell.new.list hash_state.old hash_state.new
         (deed_in doing.entry) (told_in result) }
 {
@@ -203,14 +203,14 @@ fn dispatch_check(
     requires ready { MayBy cell.old pass.old.number
         (Deed.Check asked.file asked.func no_action 0) }
     ensures leaves { let action = decide_of rules.now (access_of actor.now.cred.now place.now
-        (metadata (past cell.old.list)) asked.func asked.mask) in
+        (metadata (newest_first cell.old.list)) asked.func asked.mask) in
         Leaves cell.old cell.new book.old.list book.new.list pass.old pass.new actor.now.who
         (Deed.Check asked.file asked.func action (length rules.now)) (told_by (λ r. r.0) result) }
     ensures action { IfOk result (λ r. r.1 ≡ decide_of rules.now
-        (access_of actor.now.cred.now place.now (metadata (past cell.old.list)) asked.func
+        (access_of actor.now.cred.now place.now (metadata (newest_first cell.old.list)) asked.func
         asked.mask)) }
     ensures told { IfOk result (λ r. Some r.0 ≡ outcome cell.old.inode book.old.list
-        (Deed.Check asked.file asked.func r.1 (length rules.now)) (past cell.old.list)) }
+        (Deed.Check asked.file asked.func r.1 (length rules.now)) (newest_first cell.old.list)) }
     ensures book { (book.new.name ≡ book.old.name) × (book.new.callers ≡ book.old.callers) }
 {
     listed::check(cell, pass, actor.who, asked, rules, actor.cred, place, book)
@@ -235,14 +235,14 @@ pub fn look_and_check(
     ensures looked { HasLooked cell.old.inode pass.old.number pass.old.seen cell.old.list
         pass.old.mine }
     ensures leaves { let action = decide_of rules.now (access_of actor.now.cred.now place.now
-        (metadata (past cell.old.list)) asked.func asked.mask) in
+        (metadata (newest_first cell.old.list)) asked.func asked.mask) in
         Leaves cell.old cell.new book.old.list book.new.list pass.old pass.new actor.now.who
         (Deed.Check asked.file asked.func action (length rules.now)) (told_by (λ r. r.0) result) }
     ensures action { IfOk result (λ r. r.1 ≡ decide_of rules.now
-        (access_of actor.now.cred.now place.now (metadata (past cell.old.list)) asked.func
+        (access_of actor.now.cred.now place.now (metadata (newest_first cell.old.list)) asked.func
         asked.mask)) }
     ensures told { IfOk result (λ r. Some r.0 ≡ outcome cell.old.inode book.old.list
-        (Deed.Check asked.file asked.func r.1 (length rules.now)) (past cell.old.list)) }
+        (Deed.Check asked.file asked.func r.1 (length rules.now)) (newest_first cell.old.list)) }
     ensures book { (book.new.name ≡ book.old.name) × (book.new.callers ≡ book.old.callers) }
 {
     cell.look(pass);

@@ -16,7 +16,7 @@ mod plain;
 
 pub use acting::apply_at;
 pub use alone::apply_alone_at;
-pub use answers::{Answered, Reached, reached_by};
+pub use answers::{StepResult, TurnResult, turn_result_of};
 pub use checking::check_at;
 pub use doing::{Actor, look_and_apply, look_and_apply_alone, look_and_check};
 pub use gathering::gather;

@@ -4,7 +4,7 @@ ghost use Rattle.inode_events.specs.declared.deed.Deed.TheVariants as Deed;
 ghost use Rattle.std.specs.Prelude.{◌≡◌, ℕ, ◌+◌, List, length, Some, IfOk, OnErr};
 ghost use Rattle.world_model.specs.inodes.Acts.{Acts, MayBy, Stays};
 ghost use Rattle.inode_events.specs.Checks.{no_action};
-ghost use Rattle.inode_events.specs.Past.{past};
+ghost use Rattle.inode_events.specs.NewestFirst.{newest_first};
 ghost use Rattle.inode_events.specs.State.{metadata};
 ghost use Rattle.task_mind.specs.matching.Decision.{access_of, decide_of};
 ghost use Rattle.world_model.specs.Due.{HashesTold};
@@ -114,7 +114,7 @@ pub fn check(
     requires may { MayBy cell.old pass.old.number
         (Deed.Check asked.file asked.func no_action 0) }
     ensures action { IfOk result (λ r. r.1 ≡ decide_of rules.now (access_of cred.now place.now
-        (metadata (past cell.old.list)) asked.func asked.mask)) }
+        (metadata (newest_first cell.old.list)) asked.func asked.mask)) }
     ensures acts { IfOk result (λ r. Acts cell.old cell.new book.old.list book.new.list
         pass.old pass.new who (Deed.Check asked.file asked.func r.1 (length rules.now))
         (Some r.0)) }

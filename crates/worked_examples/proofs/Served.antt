@@ -6,7 +6,7 @@ use Rattle.std.proofs.lemmas.List.Elements.{All-cons, All-contains, All-nil}
 use Rattle.std.proofs.lemmas.Option.{none-some, same_Some}
 use Rattle.inode_events.specs.Callers.{caller_of}
 use Rattle.inode_events.specs.Checks.{no_action}
-use Rattle.inode_events.specs.Past.{past}
+use Rattle.inode_events.specs.NewestFirst.{newest_first}
 use Rattle.inode_events.specs.declared.deed.Deed.TheVariants as deed
 use Rattle.inode_events.specs.declared.deed.How.TheVariants as how
 use Rattle.inode_events.specs.declared.told.Event.{Event}
@@ -20,7 +20,7 @@ use Rattle.run_laws.specs.model.Served.{IsDecided, IsServed, RulesRise, Run, Ser
 use Rattle.run_laws.specs.model.Turns.{start_of, turns_of}
 use Rattle.run_laws.specs.model.rules.declared.cell.RuleEntry.{RuleEntry}
 use Rattle.run_laws.specs.model.steps.declared.call.Call.TheVariants as call
-use Rattle.worked_examples.specs.Served.{ServedExamples, both, counting, counting_journal, counting_run, growing, grown, has_finished, has_opened, measure_at, opening, station, task}
+use Rattle.worked_examples.specs.Served.{ServedExamples, both, counting, counting_journal, counting_run, growing, grown, has_finished, has_opened, measure_at, opening, script_file, task}
 use Rattle.worked_examples.specs.Shared.{birth, did, file_a, who}
 
 -- ---- the run in which the counted rules rise
@@ -54,9 +54,9 @@ second = checked 4 2 ∷ plain_answer 3 told.Held ∷ []
 
 -- no rule concerns either check
 first_decided : IsDecided counting run opener 1 (checked 2 1) 0 FileCheck 4
-unfolding past
+unfolding newest_first
 first_decided = record {
-  station = station;
+  script_file = script_file;
   journal = journal;
   at = refl;
   journal_at = refl;
@@ -66,9 +66,9 @@ first_decided = record {
 }
 
 second_decided : IsDecided counting run opener 1 (checked 4 2) 0 FileCheck 4
-unfolding past
+unfolding newest_first
 second_decided = record {
-  station = station;
+  script_file = script_file;
   journal = journal;
   at = refl;
   journal_at = refl;
@@ -147,8 +147,8 @@ all_of_three (e ∷ es) is =
     All-cons IsOfThree e es (leb-true (caller_of e) 3 parts.0) (all_of_three es parts.1)
 
 -- along the journal, checks count 1 rule and then 2
-rules_rise : RulesRise 1 (past journal)
-unfolding past
+rules_rise : RulesRise 1 (newest_first journal)
+unfolding newest_first
 rules_rise = (omega arith, (omega arith, (omega arith, (omega arith, (omega arith, tt)))))
 
 -- the run is served
@@ -162,34 +162,34 @@ rising = record {
   no_other_rules = All-cons (λ (r : RuleEntry). r.who.task < 3)
       (record { who = who 2 0 0; rule = measure_at BprmCheck }) [] (lit< tt)
       (All-nil (λ (r : RuleEntry). r.who.task < 3));
-  rules_rise = All-cons (λ (j : List Event). RulesRise 1 (past j)) journal [] rules_rise
-      (All-nil (λ (j : List Event). RulesRise 1 (past j)));
+  rules_rise = All-cons (λ (j : List Event). RulesRise 1 (newest_first j)) journal [] rules_rise
+      (All-nil (λ (j : List Event). RulesRise 1 (newest_first j)));
 }
 
 -- ---- the run in which they fall
 
 -- along the journal, checks count 2 rules and then 1
-falls : RulesRise 1 (past (counting_journal 2 1)) → ⊥
-unfolding past
+falls : RulesRise 1 (newest_first (counting_journal 2 1)) → ⊥
+unfolding newest_first
 falls rise = let fell : 2 ≤ 1 = rise.0 in absurd (omega arith)
 
 -- so that run isn't served
 falling : Served counting (counting_run 2 1) → ⊥
-falling served = falls (All-contains (λ (j : List Event). RulesRise 1 (past j))
+falling served = falls (All-contains (λ (j : List Event). RulesRise 1 (newest_first j))
     (counting_journal 2 1 ∷ []) (counting_journal 2 1) served.rules_rise (0, omega arith, refl))
 
 -- ---- turns and rounds
 
 -- the turns, by computing
 turns : (turns_of growing (start_of growing) (1 ∷ 0 ∷ 0 ∷ 0 ∷ 2 ∷ 1 ∷ [])).state ≡ grown
-unfolding past
+unfolding newest_first
 turns = refl
 
 -- the round, by computing
 round : (rounds both 1 (start_of both)).state.journals
     ≡ (birth file_a ∷ did 0 0 0 (deed.Count (how.Read false)) told.Held
     ∷ did 1 0 0 (deed.Count (how.Read false)) told.Held ∷ []) ∷ []
-unfolding past
+unfolding newest_first
 round = refl
 
 -- the examples, together

@@ -13,7 +13,7 @@ use Rattle.inode_events.specs.policy.declared.rule.Func.{Func}
 use Rattle.inode_events.specs.policy.declared.rule.Func.TheVariants.{BprmCheck, FileCheck}
 use Rattle.run_laws.specs.model.History.{Thought}
 use Rattle.run_laws.specs.model.Rounds.{rounds}
-use Rattle.run_laws.specs.model.Scene.{Program, Scene, Station}
+use Rattle.run_laws.specs.model.Scene.{Program, Scene, ScriptFile}
 use Rattle.run_laws.specs.model.Served.{Run, Served}
 use Rattle.run_laws.specs.model.Turns.{State, start_of, turns_of}
 use Rattle.run_laws.specs.model.steps.declared.call.Call.{Call}
@@ -25,8 +25,8 @@ use Rattle.worked_examples.specs.Shared.{abc, birth, boot, did, file_a, image, m
 -- ---- scripts
 
 -- the file /a on ext4
-abbrev pub station : Station
-station = record {
+abbrev pub script_file : ScriptFile
+script_file = record {
   path = codes "/a";
   birth = image true abc;
   place = record { magic = 0xef53; uuid = 1; name = codes "ext4"; versions = true };
@@ -67,7 +67,7 @@ abbrev pub scene : List RuleValue → List Program → Scene
 scene rules programs = record {
   settings = settings Off;
   boot = boot;
-  stations = station ∷ [];
+  script_files = script_file ∷ [];
   rules = rules;
   programs = programs;
 }

@@ -38,7 +38,7 @@ struct Flags {
 
 // Holds the file of this number till the task that opens the other has made its steps.
 fn hold<N: Name, R: Wait>(rt: &R, live: &Live<N>, flags: &Flags, inode: u32)
-    requires { inode < length N.consts.sites }
+    requires { inode < length N.consts.each_inode }
 {
     live.hold(rt, inode, || {
         flags.held.store(true, Ordering::SeqCst);
@@ -115,7 +115,7 @@ fn are_apart<N: Name, R: Threads + Wait + Sync>(
     tasks: Vec<Task>,
 ) -> Result<bool, OutOfMemory>
     requires consts { world.consts ≡ N.consts }
-    requires inode { inode < length N.consts.sites }
+    requires inode { inode < length N.consts.each_inode }
     requires tasks { All (IsTask N.consts) tasks.items }
 {
     let live = world.share::<N>()?;
@@ -130,7 +130,7 @@ fn are_apart<N: Name, R: Threads + Wait + Sync>(
     let (_, moved) = join(
         rt,
         ||
-            requires { inode < length N.consts.sites }
+            requires { inode < length N.consts.each_inode }
         { hold(rt, shared, told, inode) },
         move || -> bool
             requires { IsSync R.row × All (IsTask N.consts) tasks.items }

@@ -11,7 +11,7 @@ use task_core::{Task, World};
 /// The world and the tasks of the script before their first turn, and the number of inodes.
 pub fn started(alloc: Global, script: Script) -> Result<(World, Vec<Task>, usize), OutOfMemory>
     ensures tasks { IfOk result (λ r. All (IsTask r.0.consts) r.1.items) }
-    ensures inodes { IfOk result (λ r. length r.0.consts.sites ≡ r.2) }
+    ensures inodes { IfOk result (λ r. length r.0.consts.each_inode ≡ r.2) }
 {
     script.keeps();
     let ScriptParts {

@@ -13,9 +13,9 @@ use Rattle.run_model.specs.Turns.{Moment, State}
 use Rattle.world_close.specs.worlds.WorldConsts.{WorldConsts, scene_of}
 use Rattle.world_close.specs.worlds.Runs.{AreTasks, moment_of, programs_of, thought_of}
 use Rattle.world_close.specs.worlds.Tasks.{Tasked}
-use Rattle.world_close.specs.worlds.World.{StationValue}
+use Rattle.world_close.specs.worlds.World.{WorldInodeValue}
 use Rattle.world_close.specs.minds.Value.{TaskValue}
-use Rattle.world_close.specs.Closed.{AreStations, WorldClosed}
+use Rattle.world_close.specs.Closed.{AreWorldInodes, WorldClosed}
 use Rattle.world_close.specs.Finished.{HaveMade, state_at}
 use Rattle.world_close.proofs.Finishing.{finished}
 use Rattle.world_close.proofs.Leaving.{closed_left}
@@ -32,18 +32,18 @@ vain left_of (Some sem) = left_of sem == 0
 -- ---- the world
 
 -- the final state, by the closed lists and the tasks
-pub closed_ended : (consts : WorldConsts) (stations : List StationValue) (list : List Entry)
+pub closed_ended : (consts : WorldConsts) (world_inodes : List WorldInodeValue) (list : List Entry)
     (signals : List Event) (added : List RuleEntry) (tasks : List Tasked) (e : EndedValue)
-    → AreStations consts stations → AreTasks consts tasks → length tasks ≡ consts.tasks
-    → HaveMade consts (state_at stations list signals added) tasks
-    → WorldClosed consts stations list signals added (map (λ (t : Tasked). t.passes) tasks)
-    → e ≡ left_by consts stations list signals added tasks
+    → AreWorldInodes consts world_inodes → AreTasks consts tasks → length tasks ≡ consts.tasks
+    → HaveMade consts (state_at world_inodes list signals added) tasks
+    → WorldClosed consts world_inodes list signals added (map (λ (t : Tasked). t.passes) tasks)
+    → e ≡ left_by consts world_inodes list signals added tasks
     → HasEnded (scene_of consts (programs_of tasks))
-    (moment_of (state_at stations list signals added) tasks) e
-closed_ended consts stations list signals added tasks e are of count made closed is =
-    let done = finished consts stations list signals added tasks are of count made closed in
+    (moment_of (state_at world_inodes list signals added) tasks) e
+closed_ended consts world_inodes list signals added tasks e are of count made closed is =
+    let done = finished consts world_inodes list signals added tasks are of count made closed in
     record {
-      ended = is ∙ closed_left consts stations list signals added tasks are done;
+      ended = is ∙ closed_left consts world_inodes list signals added tasks are done;
       entries = subst (All IsEntry) (sym (ap (λ (x : EndedValue). x.list) is)) closed.entries;
       finished = done;
     }

@@ -9,7 +9,7 @@ use Rattle.grow_list.specs.Shown.{Passed}
 use Rattle.grow_list.proofs.Prefixes.{prefix_refl}
 use Rattle.ima_templates.specs.declared.entry.Entry.{Entry}
 use Rattle.inode_events.specs.Callers.{caller_of}
-use Rattle.inode_events.specs.Past.{past}
+use Rattle.inode_events.specs.NewestFirst.{newest_first}
 use Rattle.inode_events.specs.Inode.{Inode}
 use Rattle.inode_events.specs.Legal.{EachFollows}
 use Rattle.inode_events.specs.declared.told.Event.{Event}
@@ -24,18 +24,18 @@ use Rattle.world_model.specs.laws_of_runs.Checks.{SeesMore, seen_of}
 use Rattle.world_model.specs.laws_of_runs.Moments.{seen_in}
 use Rattle.world_model.proofs.laws_of_runs.Checking.{law_fits_are_suited}
 use Rattle.world_model.specs.model.History.{Thought, own, own_rules, own_signals, thought}
-use Rattle.world_model.specs.model.Scene.{Program, Scene, Station, inode_of, mode_of}
+use Rattle.world_model.specs.model.Scene.{Program, Scene, ScriptFile, inode_of, mode_of}
 use Rattle.world_model.specs.model.Served.{IsServed, RulesRise, Run, Served, events_of, rules_of}
 use Rattle.world_model.specs.model.Turns.{State, run_at}
 use Rattle.world_model.specs.laws_of_progress.NextSteps.{IsFit}
 use Rattle.world_model.specs.laws_of_progress.Rests.{AreFit}
-use Rattle.world_model.specs.laws_of_progress.Stations.{IsWithin}
+use Rattle.world_model.specs.laws_of_progress.ScriptFiles.{IsWithin}
 use Rattle.world_model.proofs.laws_of_progress.Rests.{rests}
-use Rattle.world_model.specs.WorldConsts.{WorldConsts, mode_in, scene_of, station_of}
+use Rattle.world_model.specs.WorldConsts.{WorldConsts, mode_in, scene_of, script_file_of}
 use Rattle.world_model.specs.Runs.{AreTasks, HasMade, moment_of, program_of, programs_of, thought_of}
 use Rattle.world_model.specs.Tasks.{PassesValue, Tasked}
-use Rattle.world_model.specs.World.{StationValue, journal_of}
-use Rattle.world_close.specs.Closed.{AreStations, StationClosed, WorldClosed}
+use Rattle.world_model.specs.World.{WorldInodeValue, journal_of}
+use Rattle.world_close.specs.Closed.{AreWorldInodes, WorldClosed, WorldInodeClosed}
 use Rattle.world_close.specs.Finished.{ClosedIsFinished, FinishedEnds, FinishedIsShown, HaveMade, state_at}
 use Rattle.world_close.proofs.Gets.{all_by_get, get_map}
 use Rattle.world_close.proofs.Scening.{IsAt, all_booked, all_legal, is_at, lists_even, zip_at}
@@ -116,8 +116,8 @@ served_at consts s tasks are made n p t x =
 -- ---- all inodes
 
 -- a property of all events of a list holds of them in reverse order
-all_past : (P : Event → Type 0) (list : List Event) → All P list → All P (past list)
-unfolding past
+all_past : (P : Event → Type 0) (list : List Event) → All P list → All P (newest_first list)
+unfolding newest_first
 all_past P [] all = all
 all_past P (e ∷ list) all =
     All-same P (reverse (e ∷ list)) (reverse list ++ e ∷ []) (reverse-append (e ∷ []) list)
@@ -126,12 +126,12 @@ all_past P (e ∷ list) all =
 
 -- the journal of an inode is legal, and its events are of the tasks or births
 record IsLegalAt (inode : Inode) (journal : List Event) (tasks : ℕ) : Type 0 where
-  pub follows : EachFollows inode (past journal)
-  pub owned : IsOwned (past journal)
+  pub follows : EachFollows inode (newest_first journal)
+  pub owned : IsOwned (newest_first journal)
   pub within : All (λ (e : Event). caller_of e ≤ tasks) journal
 
-legal_at : (s : StationValue) (q : Passed Entry) (tasks : ℕ) → s.cell.callers ≡ tasks + 1
-    → StationClosed s q → IsLegalAt s.cell.inode s.cell.list tasks
+legal_at : (s : WorldInodeValue) (q : Passed Entry) (tasks : ℕ) → s.cell.callers ≡ tasks + 1
+    → WorldInodeClosed s q → IsLegalAt s.cell.inode s.cell.list tasks
 legal_at s q tasks callers closed = record {
   follows = closed.legal.1;
   owned = closed.owned;
@@ -143,54 +143,57 @@ legal_at s q tasks callers closed = record {
   within c l = omega (arith, callers)
 
 -- the journal of number i is legal
-legal_in : (consts : WorldConsts) (programs : List Program) (stations : List StationValue)
-    (inodes : List (Passed Entry)) → AreStations consts stations
-    → AllZip StationClosed stations inodes → (i : ℕ) (station : Station) (journal : List Event)
-    → slice_get (scene_of consts programs).stations i ≡ Some station
-    → slice_get (map journal_of stations) i ≡ Some journal
-    → IsLegalAt (inode_of (scene_of consts programs) station) journal consts.tasks
-legal_in consts programs stations inodes are closed i station journal a b =
-    at (is_at consts programs stations i station journal are a b) where
-      at : IsAt (scene_of consts programs) stations i station journal
-          → IsLegalAt (inode_of (scene_of consts programs) station) journal consts.tasks
+legal_in : (consts : WorldConsts) (programs : List Program) (world_inodes : List WorldInodeValue)
+    (inodes : List (Passed Entry)) → AreWorldInodes consts world_inodes
+    → AllZip WorldInodeClosed world_inodes inodes
+    → (i : ℕ) (script_file : ScriptFile) (journal : List Event)
+    → slice_get (scene_of consts programs).script_files i ≡ Some script_file
+    → slice_get (map journal_of world_inodes) i ≡ Some journal
+    → IsLegalAt (inode_of (scene_of consts programs) script_file) journal consts.tasks
+legal_in consts programs world_inodes inodes are closed i script_file journal a b =
+    at (is_at consts programs world_inodes i script_file journal are a b) where
+      at : IsAt (scene_of consts programs) world_inodes i script_file journal
+          → IsLegalAt (inode_of (scene_of consts programs) script_file) journal consts.tasks
       at w =
-          let q = zip_at StationClosed stations inodes i w.there closed w.at in
+          let q = zip_at WorldInodeClosed world_inodes inodes i w.there closed w.at in
           subst (λ (x : Inode × List Event). IsLegalAt x.0 x.1 consts.tasks)
           (λ k. (w.inode_is k, w.journal_is k))
           (legal_at w.there q.0 consts.tasks (are.each i w.there w.at).callers q.1.1)
 
 -- all events of the journals are of the tasks, or births
-all_within : (consts : WorldConsts) (stations : List StationValue) (inodes : List (Passed Entry))
-    (count : ℕ) → consts.tasks ≡ count → AreStations consts stations
-    → AllZip StationClosed stations inodes
+all_within : (consts : WorldConsts) (world_inodes : List WorldInodeValue)
+    (inodes : List (Passed Entry))
+    (count : ℕ) → consts.tasks ≡ count → AreWorldInodes consts world_inodes
+    → AllZip WorldInodeClosed world_inodes inodes
     → All (λ (journal : List Event). All (λ (e : Event). caller_of e ≤ count) journal)
-    (map journal_of stations)
-all_within consts stations inodes count same are closed =
+    (map journal_of world_inodes)
+all_within consts world_inodes inodes count same are closed =
     all_by_get (λ (journal : List Event). All (λ (e : Event). caller_of e ≤ count) journal)
-    (map journal_of stations)
-    (λ i journal b. at i journal (get_map journal_of stations i journal b)) where
+    (map journal_of world_inodes)
+    (λ i journal b. at i journal (get_map journal_of world_inodes i journal b)) where
       at : (i : ℕ) (journal : List Event)
-          → (s : StationValue) × ((slice_get stations i ≡ Some s) × (journal_of s ≡ journal))
+          → (s : WorldInodeValue) × ((slice_get world_inodes i ≡ Some s) × (journal_of s ≡ journal))
           → All (λ (e : Event). caller_of e ≤ count) journal
       at i journal x =
-          let q = zip_at StationClosed stations inodes i x.0 closed x.1.0 in
+          let q = zip_at WorldInodeClosed world_inodes inodes i x.0 closed x.1.0 in
           subst (λ (l : List Event). All (λ (e : Event). caller_of e ≤ count) l) x.1.1
           (legal_at x.0 q.0 count ((are.each i x.0 x.1.0).callers
           ∙ ap (λ (n : ℕ). n + 1) same) q.1.1).within
 
 -- along each journal the rules that checks count never decrease
-all_rise : (consts : WorldConsts) (stations : List StationValue) → AreStations consts stations
-    → All (λ (journal : List Event). RulesRise (length consts.base) (past journal))
-    (map journal_of stations)
-all_rise consts stations are =
-    all_by_get (λ (journal : List Event). RulesRise (length consts.base) (past journal))
-    (map journal_of stations)
-    (λ i journal b. at i journal (get_map journal_of stations i journal b)) where
+all_rise : (consts : WorldConsts) (world_inodes : List WorldInodeValue)
+    → AreWorldInodes consts world_inodes
+    → All (λ (journal : List Event). RulesRise (length consts.base) (newest_first journal))
+    (map journal_of world_inodes)
+all_rise consts world_inodes are =
+    all_by_get (λ (journal : List Event). RulesRise (length consts.base) (newest_first journal))
+    (map journal_of world_inodes)
+    (λ i journal b. at i journal (get_map journal_of world_inodes i journal b)) where
       at : (i : ℕ) (journal : List Event)
-          → (s : StationValue) × ((slice_get stations i ≡ Some s) × (journal_of s ≡ journal))
-          → RulesRise (length consts.base) (past journal)
+          → (s : WorldInodeValue) × ((slice_get world_inodes i ≡ Some s) × (journal_of s ≡ journal))
+          → RulesRise (length consts.base) (newest_first journal)
       at i journal x =
-          subst (λ (l : List Event). RulesRise (length consts.base) (past l)) x.1.1
+          subst (λ (l : List Event). RulesRise (length consts.base) (newest_first l)) x.1.1
           (are.each i x.0 x.1.0).rise.rise
 
 -- ---- all tasks
@@ -200,12 +203,13 @@ all_fit : (consts : WorldConsts) (tasks : List Tasked) → AreTasks consts tasks
     → AreFit (scene_of consts (programs_of tasks))
 all_fit consts tasks are n p a k c e = at (get_map program_of tasks n p a) where
   at : (t : Tasked) × ((slice_get tasks n ≡ Some t) × (program_of t ≡ p))
-      → IsFit c × IsWithin (length (scene_of consts (programs_of tasks)).stations) c
+      → IsFit c × IsWithin (length (scene_of consts (programs_of tasks)).script_files) c
   at x =
       let fit = (are.each n x.0 x.1.0).task.played.calls k c
       (ap (λ (q : Program). slice_get q.calls k) x.1.1 ∙ e) in (
         fit.0,
-        subst (λ (m : ℕ). IsWithin m c) (sym (length-map consts.sites (station_of consts))) fit.1,
+        subst (λ (m : ℕ). IsWithin m c)
+            (sym (length-map consts.each_inode (script_file_of consts))) fit.1,
       )
 
 -- no task has added to the measurement list
@@ -221,33 +225,33 @@ all_unlisted consts tasks are =
 
 -- ---- the run
 
-abbrev served_run : (consts : WorldConsts) (stations : List StationValue) (list : List Entry)
+abbrev served_run : (consts : WorldConsts) (world_inodes : List WorldInodeValue) (list : List Entry)
     (signals : List Event) (added : List RuleEntry) (tasks : List Tasked)
-    → AreStations consts stations → AreTasks consts tasks → length tasks ≡ consts.tasks
-    → HaveMade consts (state_at stations list signals added) tasks
-    → WorldClosed consts stations list signals added (map (λ (t : Tasked). t.passes) tasks)
+    → AreWorldInodes consts world_inodes → AreTasks consts tasks → length tasks ≡ consts.tasks
+    → HaveMade consts (state_at world_inodes list signals added) tasks
+    → WorldClosed consts world_inodes list signals added (map (λ (t : Tasked). t.passes) tasks)
     → Served (scene_of consts (programs_of tasks))
-    (run_at (moment_of (state_at stations list signals added) tasks))
-served_run consts stations list signals added tasks are each count made closed = record {
-  journals = lists_even consts (programs_of tasks) stations are;
+    (run_at (moment_of (state_at world_inodes list signals added) tasks))
+served_run consts world_inodes list signals added tasks are each count made closed = record {
+  journals = lists_even consts (programs_of tasks) world_inodes are;
   thoughts = length-map tasks thought_of ∙ sym (length-map tasks program_of);
-  tasks = λ n p t a b. (served_at consts (state_at stations list signals added) tasks each made
+  tasks = λ n p t a b. (served_at consts (state_at world_inodes list signals added) tasks each made
       n p t (task_at tasks n p t a b)).served;
-  no_other_events = all_within consts stations closed.inodes (length (programs_of tasks))
+  no_other_events = all_within consts world_inodes closed.inodes (length (programs_of tasks))
       (sym count ∙ sym (length-map tasks program_of)) are closed.closed;
   no_other_rules = subst (λ (m : ℕ). All (λ (r : RuleEntry). r.who.task < m) added)
       (sym count ∙ sym (length-map tasks program_of)) closed.ruled;
-  rules_rise = all_rise consts stations are;
+  rules_rise = all_rise consts world_inodes are;
 }
 
-reached_moment : (consts : WorldConsts) (stations : List StationValue) (list : List Entry)
+reached_moment : (consts : WorldConsts) (world_inodes : List WorldInodeValue) (list : List Entry)
     (signals : List Event) (added : List RuleEntry) (tasks : List Tasked)
-    → AreStations consts stations → AreTasks consts tasks → length tasks ≡ consts.tasks
-    → HaveMade consts (state_at stations list signals added) tasks
-    → WorldClosed consts stations list signals added (map (λ (t : Tasked). t.passes) tasks)
+    → AreWorldInodes consts world_inodes → AreTasks consts tasks → length tasks ≡ consts.tasks
+    → HaveMade consts (state_at world_inodes list signals added) tasks
+    → WorldClosed consts world_inodes list signals added (map (λ (t : Tasked). t.passes) tasks)
     → IsReached (scene_of consts (programs_of tasks))
-    (moment_of (state_at stations list signals added) tasks)
-reached_moment consts stations list signals added tasks are each count made closed =
+    (moment_of (state_at world_inodes list signals added) tasks)
+reached_moment consts world_inodes list signals added tasks are each count made closed =
     record { legal = legal; tasks = λ n p t a b. rest n p t a (task_at tasks n p t a b) } where
       scene : Scene
       scene = scene_of consts (programs_of tasks)
@@ -256,12 +260,12 @@ reached_moment consts stations list signals added tasks are each count made clos
       programs = length-map tasks program_of ∙ count
 
       legal : AreLegal (scene_of consts (programs_of tasks))
-          (state_at stations list signals added) (map thought_of tasks)
+          (state_at world_inodes list signals added) (map thought_of tasks)
       legal = record {
         thoughts_even = length-map tasks thought_of ∙ sym (length-map tasks program_of);
-        follows = λ i station journal a b.
-            let l = legal_in consts (programs_of tasks) stations closed.inodes are closed.closed i
-            station journal a b in (
+        follows = λ i script_file journal a b.
+            let l = legal_in consts (programs_of tasks) world_inodes closed.inodes are
+            closed.closed i script_file journal a b in (
               l.follows,
               l.owned,
               all_past (λ (e : Event). caller_of e ≤ length (programs_of tasks)) journal
@@ -275,14 +279,14 @@ reached_moment consts stations list signals added tasks are each count made clos
 
       rest : (n : ℕ) (p : Program) (t : Thought) → slice_get (programs_of tasks) n ≡ Some p
           → IsTaskAt tasks n p t
-          → Resting (scene_of consts (programs_of tasks)) (state_at stations list signals added)
+          → Resting (scene_of consts (programs_of tasks)) (state_at world_inodes list signals added)
           n p t
       rest n p t a x =
           let h = made n x.task x.at in
           let number = (each.each n x.task x.at).number in
-          rests (scene_of consts (programs_of tasks)) (state_at stations list signals added)
+          rests (scene_of consts (programs_of tasks)) (state_at world_inodes list signals added)
           (map thought_of tasks) n p t h.history (all_fit consts tasks each)
-          (lists_even consts (programs_of tasks) stations are) legal a
+          (lists_even consts (programs_of tasks) world_inodes are) legal a
           (ap (λ (q : Program). thought (mode_in consts) q h.history) (sym x.program)
           ∙ h.stands ∙ x.stands)
           (λ i journal e. subst (λ (y : ℕ × Program). events_of y.0 journal
@@ -294,21 +298,21 @@ reached_moment consts stations list signals added tasks are each count made clos
 
 -- proof of `ClosedIsFinished`
 pub finished : ClosedIsFinished
-finished consts stations list signals added tasks are each count made closed = record {
-  legal = all_legal consts (programs_of tasks) stations closed.inodes are closed.closed;
+finished consts world_inodes list signals added tasks are each count made closed = record {
+  legal = all_legal consts (programs_of tasks) world_inodes closed.inodes are closed.closed;
   merged =
       joined (scene_of consts (programs_of tasks))
-      (run_at (moment_of (state_at stations list signals added) tasks)) closed.inodes
+      (run_at (moment_of (state_at world_inodes list signals added) tasks)) closed.inodes
       (map (λ (p : PassesValue). p.book) (map (λ (t : Tasked). t.passes) tasks)) closed.book
-      (all_booked consts (programs_of tasks) stations closed.inodes are closed.closed)
+      (all_booked consts (programs_of tasks) world_inodes closed.inodes are closed.closed)
       (all_unlisted consts tasks each)
       (length-map (map (λ (t : Tasked). t.passes) tasks) (λ (p : PassesValue). p.book)
       ∙ length-map tasks (λ (t : Tasked). t.passes) ∙ sym (length-map tasks program_of))
-      (served_run consts stations list signals added tasks are each count made closed)
-      (λ n p t a b. (served_at consts (state_at stations list signals added) tasks each made
+      (served_run consts world_inodes list signals added tasks are each count made closed)
+      (λ n p t a b. (served_at consts (state_at world_inodes list signals added) tasks each made
       n p t (task_at tasks n p t a b)).rise);
-  served = served_run consts stations list signals added tasks are each count made closed;
-  reached = reached_moment consts stations list signals added tasks are each count made closed;
+  served = served_run consts world_inodes list signals added tasks are each count made closed;
+  reached = reached_moment consts world_inodes list signals added tasks are each count made closed;
 }
 
 -- proof of `FinishedEnds`

@@ -7,16 +7,16 @@ use Rattle.std.proofs.lemmas.Option.{same_Some}
 use Rattle.world_close.proofs.laws_of_progress.Totals.{count_past, counted_when_reached}
 use Rattle.measure_book.specs.Replay.{banks_of}
 use Rattle.inode_events.specs.EndedInode.{ended_inode}
-use Rattle.inode_events.specs.Past.{past}
+use Rattle.inode_events.specs.NewestFirst.{newest_first}
 use Rattle.inode_events.specs.Semaphores.{left as count_left}
 use Rattle.run_model.specs.Ended.{all_done, all_wait, left}
 use Rattle.run_model.specs.EndedValue.{EndedTaskValue, appends, inodes_ended, tasks_ended}
-use Rattle.run_model.specs.Scene.{Program, Scene, Station, inode_of}
-use Rattle.world_close.specs.worlds.WorldConsts.{scene_of, station_of}
+use Rattle.run_model.specs.Scene.{Program, Scene, ScriptFile, inode_of}
+use Rattle.world_close.specs.worlds.WorldConsts.{scene_of, script_file_of}
 use Rattle.world_close.specs.worlds.Runs.{moment_of, program_of, programs_of, thought_of}
 use Rattle.world_close.specs.worlds.Tasks.{Tasked}
-use Rattle.world_close.specs.worlds.World.{StationValue, journal_of}
-use Rattle.world_close.specs.Closed.{ended_station}
+use Rattle.world_close.specs.worlds.World.{WorldInodeValue, journal_of}
+use Rattle.world_close.specs.Closed.{ended_world_inode}
 use Rattle.world_close.specs.Finished.{state_at}
 use Rattle.world_close.proofs.Gets.{map_get}
 use Rattle.world_close.proofs.Scening.{is_at}
@@ -25,17 +25,18 @@ use Rattle.world_close.specs.Leaves.{ClosedIsLeft, done_by, may_append, rests, t
 -- ---- the inodes
 
 -- each inode ends as its journal says
-inodes_are : (scene : Scene) (sites : List Station) (stations : List StationValue)
-    → length sites ≡ length stations
-    → ((k : ℕ) (x : Station) (s : StationValue) → slice_get sites k ≡ Some x
-    → slice_get stations k ≡ Some s → inode_of scene x ≡ s.cell.inode)
-    → map ended_station stations ≡ inodes_ended scene sites (map journal_of stations)
+inodes_are : (scene : Scene) (script_files : List ScriptFile) (world_inodes : List WorldInodeValue)
+    → length script_files ≡ length world_inodes
+    → ((k : ℕ) (x : ScriptFile) (s : WorldInodeValue) → slice_get script_files k ≡ Some x
+    → slice_get world_inodes k ≡ Some s → inode_of scene x ≡ s.cell.inode)
+    → map ended_world_inode world_inodes
+    ≡ inodes_ended scene script_files (map journal_of world_inodes)
 inodes_are scene [] [] even each = refl
-inodes_are scene [] (s ∷ stations) even each = absurd (omega arith)
-inodes_are scene (x ∷ sites) [] even each = absurd (omega arith)
-inodes_are scene (x ∷ sites) (s ∷ stations) even each =
+inodes_are scene [] (s ∷ world_inodes) even each = absurd (omega arith)
+inodes_are scene (x ∷ script_files) [] even each = absurd (omega arith)
+inodes_are scene (x ∷ script_files) (s ∷ world_inodes) even each =
     let first = each 0 x s refl refl in
-    let rest = inodes_are scene sites stations (omega arith) (λ k. each (suc k)) in
+    let rest = inodes_are scene script_files world_inodes (omega arith) (λ k. each (suc k)) in
     λ i. ended_inode (sym first i) (journal_of s) ∷ rest i
 
 -- ---- the tasks
@@ -68,7 +69,7 @@ grown (t ∷ tasks) = ap (λ (b : Bool). may_append t || b) (grown tasks)
 -- ---- the world
 
 pub closed_left : ClosedIsLeft
-closed_left consts stations list signals added tasks are finished = λ i. record {
+closed_left consts world_inodes list signals added tasks are finished = λ i. record {
   inodes = inodes i;
   list = list;
   banks = banks_of list;
@@ -79,31 +80,31 @@ closed_left consts stations list signals added tasks are finished = λ i. record
   base = length consts.base;
   grows = grown tasks i;
 } where
-  inodes : map ended_station stations
-      ≡ inodes_ended (scene_of consts (programs_of tasks)) (map (station_of consts) consts.sites)
-      (map journal_of stations)
+  inodes : map ended_world_inode world_inodes
+      ≡ inodes_ended (scene_of consts (programs_of tasks))
+      (map (script_file_of consts) consts.each_inode) (map journal_of world_inodes)
   inodes =
       inodes_are (scene_of consts (programs_of tasks))
-      (map (station_of consts) consts.sites) stations
-      (length-map consts.sites (station_of consts) ∙ sym are.even)
-      (λ k x s a b. let w = is_at consts (programs_of tasks) stations k x (journal_of s) are a
-      (map_get journal_of stations k s b) in
-      sym w.inode_is ∙ ap (λ (t : StationValue). t.cell.inode)
+      (map (script_file_of consts) consts.each_inode) world_inodes
+      (length-map consts.each_inode (script_file_of consts) ∙ sym are.even)
+      (λ k x s a b. let w = is_at consts (programs_of tasks) world_inodes k x (journal_of s) are a
+      (map_get journal_of world_inodes k s b) in
+      sym w.inode_is ∙ ap (λ (t : WorldInodeValue). t.cell.inode)
       (same_Some w.there s (sym w.at ∙ b)))
 
   -- the posts that are left of each semaphore are the same by the journal as by the replies
-  left_is : (sem : ℕ) → count_left sem (past signals)
+  left_is : (sem : ℕ) → count_left sem (newest_first signals)
       ≡ left sem (map program_of tasks) (map thought_of tasks)
   left_is sem =
       let both = counted_when_reached (scene_of consts (programs_of tasks))
-      (moment_of (state_at stations list signals added) tasks) finished.reached sem in
+      (moment_of (state_at world_inodes list signals added) tasks) finished.reached sem in
       let same = count_past sem signals in
       omega (arith, both.0, both.1, same.0, same.1)
 
-  wait : list_all (rests (λ sem. count_left sem (past signals))) tasks
+  wait : list_all (rests (λ sem. count_left sem (newest_first signals))) tasks
       ≡ all_wait (λ sem. left sem (map program_of tasks) (map thought_of tasks))
       (map program_of tasks) (map thought_of tasks)
   wait =
-      waits (λ sem. count_left sem (past signals)) tasks
+      waits (λ sem. count_left sem (newest_first signals)) tasks
       ∙ ap (λ (l : ℕ → ℕ). all_wait l (map program_of tasks) (map thought_of tasks))
       (λ i sem. left_is sem i)

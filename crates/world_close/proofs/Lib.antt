@@ -1,6 +1,6 @@
 pub mod Gets
 pub mod Rowing
-pub mod Stationing
+pub mod WorldInodeLemmas
 pub mod Scening
 pub mod Finishing
 pub mod Listing

@@ -15,10 +15,10 @@ use Rattle.ima_templates.specs.declared.entry.Entry.{Entry}
 use Rattle.inode_events.specs.declared.told.Event.{Event}
 use Rattle.policy_cell.specs.Policy.{PolicyValue}
 use Rattle.policy_cell.specs.declared.cell.RuleEntry.{RuleEntry}
-use Rattle.world_model.specs.WorldConsts.{Site, WorldConsts}
+use Rattle.world_model.specs.WorldConsts.{InodeConsts, WorldConsts}
 use Rattle.world_model.specs.Tasks.{ArePassesOf, PassesValue}
-use Rattle.world_model.specs.World.{AreRulesOf, AreSignalsOf, IsBookOf, StationValue}
-use Rattle.world_close.specs.Closed.{AreSpares, AreStations, StationClosed, journal_name, no_site}
+use Rattle.world_model.specs.World.{AreRulesOf, AreSignalsOf, IsBookOf, WorldInodeValue}
+use Rattle.world_close.specs.Closed.{AreSpares, AreWorldInodes, WorldInodeClosed, journal_name, no_inode_consts}
 use Rattle.world_close.specs.Rows.{AreNamed, RowFits, RowsFit}
 use Rattle.world_close.proofs.Gets.{all_by_get, get_map, get_parts, got, map_get}
 use Rattle.world_close.proofs.Scening.{zip_even}
@@ -32,7 +32,7 @@ AreOfTasks consts passes = (n : ℕ) (p : PassesValue) → slice_get passes n �
 
 -- each row has a pass of each journal
 pub rows_fit : (consts : WorldConsts) (passes : List PassesValue) (count : ℕ)
-    → count ≡ length consts.sites → AreOfTasks consts passes
+    → count ≡ length consts.each_inode → AreOfTasks consts passes
     → RowsFit count (journal_name consts) (map (λ (q : PassesValue). q.inodes) passes)
 rows_fit consts passes count even of k row at =
     fit (get_map (λ (q : PassesValue). q.inodes) passes k row at) where
@@ -43,22 +43,22 @@ rows_fit consts passes count even of k row at =
         each = λ i q here.
             let there : slice_get p.0.inodes i ≡ Some q =
             ap (λ (l : List (Passed Event)). slice_get l i) p.1.1 ∙ here in
-            let inside : i < length consts.sites =
+            let inside : i < length consts.each_inode =
             subst (λ (n : ℕ). i < n) (of k p.0 p.1.0).even
             (slice_get_within p.0.inodes i q there) in
-            let is = (of k p.0 p.1.0).inodes i (get_or consts.sites i no_site) q
-            (got consts.sites i no_site inside) there in
+            let is = (of k p.0 p.1.0).inodes i (get_or consts.each_inode i no_inode_consts) q
+            (got consts.each_inode i no_inode_consts inside) there in
             (is.1, is.0);
       }
 
 -- the journals of the inodes have the names of the constants
-pub are_named : (consts : WorldConsts) (stations : List StationValue) (rows : ℕ)
-    → rows ≡ consts.tasks → AreStations consts stations
-    → AreNamed (journal_name consts) rows stations
-are_named consts stations rows even are k s at =
+pub are_named : (consts : WorldConsts) (world_inodes : List WorldInodeValue) (rows : ℕ)
+    → rows ≡ consts.tasks → AreWorldInodes consts world_inodes
+    → AreNamed (journal_name consts) rows world_inodes
+are_named consts world_inodes rows even are k s at =
     let is = are.each k s at in (
-      ap (λ (x : Site). x.journal)
-          (sym (get_or_from_slice_get consts.sites k _ no_site is.site)),
+      ap (λ (x : InodeConsts). x.journal)
+          (sym (get_or_from_slice_get consts.each_inode k _ no_inode_consts is.inode_consts)),
       is.callers ∙ ap (λ (n : ℕ). n + 1) (sym even),
     )
 
@@ -77,10 +77,10 @@ zip_back R (x ∷ xs) (w ∷ ys) (suc k) y z h = zip_back R xs ys k y z.1 h
 -- ---- the measurement list
 
 -- the other passes of the measurement list are the inodes', followed by the tasks'
-module _ (consts : WorldConsts) (book : Grown Entry) (stations : List StationValue)
+module _ (consts : WorldConsts) (book : Grown Entry) (world_inodes : List WorldInodeValue)
     (inodes : List (Passed Entry)) (passes : List PassesValue) where
-  book_pass : IsBookOf consts book → AreStations consts stations
-      → AllZip StationClosed stations inodes → AreOfTasks consts passes → (k : ℕ)
+  book_pass : IsBookOf consts book → AreWorldInodes consts world_inodes
+      → AllZip WorldInodeClosed world_inodes inodes → AreOfTasks consts passes → (k : ℕ)
       → (q : Passed Entry)
       → slice_get (inodes ++ map (λ (p : PassesValue). p.book) passes) k ≡ Some q
       → (q.name ≡ book.name) × (q.number ≡ k + 1)
@@ -91,8 +91,8 @@ module _ (consts : WorldConsts) (book : Grown Entry) (stations : List StationVal
             → (q.name ≡ book.name) × (q.number ≡ k + 1)
         tasks j here p =
             let its = (of j p.0 p.1.0).book in
-            let count : length inodes ≡ length consts.sites =
-            zip_even StationClosed stations inodes closed ∙ are.even in (
+            let count : length inodes ≡ length consts.each_inode =
+            zip_even WorldInodeClosed world_inodes inodes closed ∙ are.even in (
               sym (ap (λ (x : Passed Entry). x.name) p.1.1) ∙ its.0 ∙ sym is.name,
               sym (ap (λ (x : Passed Entry). x.number) p.1.1) ∙ its.1 ∙ omega arith,
             )
@@ -102,7 +102,7 @@ module _ (consts : WorldConsts) (book : Grown Entry) (stations : List StationVal
             × (slice_get (map (λ (p : PassesValue). p.book) passes) j ≡ Some q)))
             → (q.name ≡ book.name) × (q.number ≡ k + 1)
         by (inl w) =
-            let s = zip_back StationClosed stations inodes k q closed w in
+            let s = zip_back WorldInodeClosed world_inodes inodes k q closed w in
             let its = are.each k s.0 s.1.0 in (
               s.1.1.name ∙ its.book ∙ sym is.name,
               s.1.1.number ∙ its.booked,
@@ -110,8 +110,8 @@ module _ (consts : WorldConsts) (book : Grown Entry) (stations : List StationVal
         by (inr w) =
             tasks w.0 w.1.0 (get_map (λ (p : PassesValue). p.book) passes w.0 q w.1.1)
 
-  pub book_others : IsBookOf consts book → AreStations consts stations
-      → AllZip StationClosed stations inodes → AreOfTasks consts passes
+  pub book_others : IsBookOf consts book → AreWorldInodes consts world_inodes
+      → AllZip WorldInodeClosed world_inodes inodes → AreOfTasks consts passes
       → length passes ≡ consts.tasks
       → HasOthers book (inodes ++ map (λ (p : PassesValue). p.book) passes)
   book_others is are closed of count =
@@ -120,7 +120,7 @@ module _ (consts : WorldConsts) (book : Grown Entry) (stations : List StationVal
         arith,
         length-append inodes (map (λ (p : PassesValue). p.book) passes),
         length-map passes (λ (p : PassesValue). p.book),
-        zip_even StationClosed stations inodes closed,
+        zip_even WorldInodeClosed world_inodes inodes closed,
         are.even,
         count,
         is.callers,
@@ -190,30 +190,30 @@ record IsRulesPass (consts : WorldConsts) (p : PolicyValue) (k : ℕ) (q : Passe
   pub number : q.number ≡ k
   pub whose : (k < consts.tasks) ⊎ (q.mine ≡ [])
 
-module _ (consts : WorldConsts) (rules : PolicyValue) (stations : List StationValue)
+module _ (consts : WorldConsts) (rules : PolicyValue) (world_inodes : List WorldInodeValue)
     (passes : List PassesValue) (spares : List (Passed RuleEntry)) where
   abbrev pub all_rules : List (Passed RuleEntry)
   all_rules = map (λ (p : PassesValue). p.rules) passes
-      ++ map (λ (s : StationValue). s.rules) stations ++ spares
+      ++ map (λ (s : WorldInodeValue). s.rules) world_inodes ++ spares
 
-  rules_pass : AreRulesOf consts rules → AreStations consts stations → AreSpares consts spares
-      → AreOfTasks consts passes → length passes ≡ consts.tasks → (k : ℕ)
+  rules_pass : AreRulesOf consts rules → AreWorldInodes consts world_inodes
+      → AreSpares consts spares → AreOfTasks consts passes → length passes ≡ consts.tasks → (k : ℕ)
       → (q : Passed RuleEntry) → slice_get all_rules k ≡ Some q → IsRulesPass consts rules k q
   rules_pass is are rest of count k q at =
       by (get_parts (map (λ (p : PassesValue). p.rules) passes
-      ++ map (λ (s : StationValue). s.rules) stations) spares k q at) where
+      ++ map (λ (s : WorldInodeValue). s.rules) world_inodes) spares k q at) where
         counts : length (map (λ (p : PassesValue). p.rules) passes) ≡ consts.tasks
         counts = length-map passes (λ (p : PassesValue). p.rules) ∙ count
 
         both : length (map (λ (p : PassesValue). p.rules) passes
-            ++ map (λ (s : StationValue). s.rules) stations)
-            ≡ consts.tasks + length consts.sites
+            ++ map (λ (s : WorldInodeValue). s.rules) world_inodes)
+            ≡ consts.tasks + length consts.each_inode
         both = omega (
           arith,
           counts,
           length-append (map (λ (p : PassesValue). p.rules) passes)
-              (map (λ (s : StationValue). s.rules) stations),
-          length-map stations (λ (s : StationValue). s.rules),
+              (map (λ (s : WorldInodeValue). s.rules) world_inodes),
+          length-map world_inodes (λ (s : WorldInodeValue). s.rules),
           are.even,
         )
 
@@ -229,7 +229,7 @@ module _ (consts : WorldConsts) (rules : PolicyValue) (stations : List StationVa
             }
 
         inode : (j : ℕ) → k ≡ length (map (λ (p : PassesValue). p.rules) passes) + j
-            → (s : StationValue) × ((slice_get stations j ≡ Some s) × (s.rules ≡ q))
+            → (s : WorldInodeValue) × ((slice_get world_inodes j ≡ Some s) × (s.rules ≡ q))
             → IsRulesPass consts rules k q
         inode j here s =
             let its = are.each j s.0 s.1.0 in
@@ -243,20 +243,20 @@ module _ (consts : WorldConsts) (rules : PolicyValue) (stations : List StationVa
 
         front : (slice_get (map (λ (p : PassesValue). p.rules) passes) k ≡ Some q)
             ⊎ ((j : ℕ) × ((k ≡ length (map (λ (p : PassesValue). p.rules) passes) + j)
-            × (slice_get (map (λ (s : StationValue). s.rules) stations) j ≡ Some q)))
+            × (slice_get (map (λ (s : WorldInodeValue). s.rules) world_inodes) j ≡ Some q)))
             → IsRulesPass consts rules k q
         front (inl w) = task (get_map (λ (p : PassesValue). p.rules) passes k q w)
         front (inr w) =
-            inode w.0 w.1.0 (get_map (λ (s : StationValue). s.rules) stations w.0 q w.1.1)
+            inode w.0 w.1.0 (get_map (λ (s : WorldInodeValue). s.rules) world_inodes w.0 q w.1.1)
 
         by : (slice_get (map (λ (p : PassesValue). p.rules) passes
-            ++ map (λ (s : StationValue). s.rules) stations) k ≡ Some q)
+            ++ map (λ (s : WorldInodeValue). s.rules) world_inodes) k ≡ Some q)
             ⊎ ((j : ℕ) × ((k ≡ length (map (λ (p : PassesValue). p.rules) passes
-            ++ map (λ (s : StationValue). s.rules) stations) + j)
+            ++ map (λ (s : WorldInodeValue). s.rules) world_inodes) + j)
             × (slice_get spares j ≡ Some q))) → IsRulesPass consts rules k q
         by (inl w) =
             front (get_parts (map (λ (p : PassesValue). p.rules) passes)
-            (map (λ (s : StationValue). s.rules) stations) k q w)
+            (map (λ (s : WorldInodeValue). s.rules) world_inodes) k q w)
         by (inr w) =
             let its = rest.each w.0 q w.1.1 in
             record {
@@ -265,19 +265,19 @@ module _ (consts : WorldConsts) (rules : PolicyValue) (stations : List StationVa
               whose = inr its.2;
             }
 
-  pub rules_each : AreRulesOf consts rules → AreStations consts stations → AreSpares consts spares
-      → AreOfTasks consts passes → length passes ≡ consts.tasks
+  pub rules_each : AreRulesOf consts rules → AreWorldInodes consts world_inodes
+      → AreSpares consts spares → AreOfTasks consts passes → length passes ≡ consts.tasks
       → HasEach rules.appended all_rules
   rules_each is are rest of count =
       each_in_order rules.appended all_rules
       (omega (
         arith,
         length-append (map (λ (p : PassesValue). p.rules) passes
-            ++ map (λ (s : StationValue). s.rules) stations) spares,
+            ++ map (λ (s : WorldInodeValue). s.rules) world_inodes) spares,
         length-append (map (λ (p : PassesValue). p.rules) passes)
-            (map (λ (s : StationValue). s.rules) stations),
+            (map (λ (s : WorldInodeValue). s.rules) world_inodes),
         length-map passes (λ (p : PassesValue). p.rules),
-        length-map stations (λ (s : StationValue). s.rules),
+        length-map world_inodes (λ (s : WorldInodeValue). s.rules),
         are.even,
         count,
         rest.count,
@@ -288,8 +288,8 @@ module _ (consts : WorldConsts) (rules : PolicyValue) (stations : List StationVa
       (λ k q at. (rules_pass is are rest of count k q at).number)
 
   -- each appended rule is of a task
-  pub all_ruled : AreRulesOf consts rules → AreStations consts stations → AreSpares consts spares
-      → AreOfTasks consts passes → length passes ≡ consts.tasks
+  pub all_ruled : AreRulesOf consts rules → AreWorldInodes consts world_inodes
+      → AreSpares consts spares → AreOfTasks consts passes → length passes ≡ consts.tasks
       → All (λ (q : Passed RuleEntry). HasItsOwn rules.appended q) all_rules
       → ((k : ℕ) → k < length rules.appended.list
       → count_by (λ (q : Passed RuleEntry). has_place k q.mine) all_rules ≡ 1)

@@ -16,13 +16,13 @@ use Rattle.world_model.specs.model.Turns.{Moment, State, run_at}
 use Rattle.world_model.specs.WorldConsts.{WorldConsts, scene_of}
 use Rattle.world_model.specs.Runs.{AreTasks, HasMade, moment_of, programs_of}
 use Rattle.world_model.specs.Tasks.{Tasked}
-use Rattle.world_model.specs.World.{StationValue, journal_of}
-use Rattle.world_close.specs.Closed.{AreStations, WorldClosed}
+use Rattle.world_model.specs.World.{WorldInodeValue, journal_of}
+use Rattle.world_close.specs.Closed.{AreWorldInodes, WorldClosed}
 
 -- the lists of a world, as the state of a run
-abbrev pub state_at : List StationValue → List Entry → List Event → List RuleEntry → State
-state_at stations list signals added = record {
-  journals = map journal_of stations;
+abbrev pub state_at : List WorldInodeValue → List Entry → List Event → List RuleEntry → State
+state_at world_inodes list signals added = record {
+  journals = map journal_of world_inodes;
   list = list;
   signals = signals;
   added = added;
@@ -35,9 +35,9 @@ HaveMade consts s tasks = (k : ℕ) (t : Tasked) → slice_get tasks k ≡ Some 
 -- a moment of a run at which the run may be shown, however it was reached
 pub record IsFinished (scene : Scene) (m : Moment) : Type 0 where
   pub legal : All (λ (j : Journal). Legal j.inode j.events)
-      (journals_of scene scene.stations m.state.journals)
+      (journals_of scene scene.script_files m.state.journals)
   pub merged : IsMerged scene.boot m.state.list
-      (journals_of scene scene.stations m.state.journals)
+      (journals_of scene scene.script_files m.state.journals)
   pub served : Served scene (run_at m)
   pub reached : IsReached scene m
 
@@ -46,13 +46,13 @@ pub record IsFinished (scene : Scene) (m : Moment) : Type 0 where
 -- if each task has looked at all lists, closing them yields a finished moment
 abbrev pub ClosedIsFinished : Type 0
 ClosedIsFinished =
-    (consts : WorldConsts) (stations : List StationValue) (list : List Entry) (signals : List Event)
-    (added : List RuleEntry) (tasks : List Tasked)
-    → AreStations consts stations → AreTasks consts tasks → length tasks ≡ consts.tasks
-    → HaveMade consts (state_at stations list signals added) tasks
-    → WorldClosed consts stations list signals added (map (λ (t : Tasked). t.passes) tasks)
+    (consts : WorldConsts) (world_inodes : List WorldInodeValue) (list : List Entry)
+    (signals : List Event) (added : List RuleEntry) (tasks : List Tasked)
+    → AreWorldInodes consts world_inodes → AreTasks consts tasks → length tasks ≡ consts.tasks
+    → HaveMade consts (state_at world_inodes list signals added) tasks
+    → WorldClosed consts world_inodes list signals added (map (λ (t : Tasked). t.passes) tasks)
     → IsFinished (scene_of consts (programs_of tasks))
-    (moment_of (state_at stations list signals added) tasks)
+    (moment_of (state_at world_inodes list signals added) tasks)
 
 -- at a finished moment at which no task can move, each is done or the run is stuck
 abbrev pub FinishedEnds : Type 0

@@ -3,7 +3,7 @@ use Rattle.std.specs.Prelude.{◌≡◌, ℕ, ◌&&◌, ◌||◌, not, Bool, Lis
 use Rattle.std.specs.List.{list_all, list_any}
 use Rattle.measure_book.specs.Replay.{banks_of}
 use Rattle.ima_templates.specs.declared.entry.Entry.{Entry}
-use Rattle.inode_events.specs.Past.{past}
+use Rattle.inode_events.specs.NewestFirst.{newest_first}
 use Rattle.inode_events.specs.Semaphores.{left}
 use Rattle.inode_events.specs.declared.told.Event.{Event}
 use Rattle.run_model.specs.rules.declared.cell.RuleEntry.{RuleEntry}
@@ -13,8 +13,8 @@ use Rattle.run_model.specs.Turns.{run_at}
 use Rattle.world_close.specs.worlds.WorldConsts.{WorldConsts, scene_of}
 use Rattle.world_close.specs.worlds.Runs.{moment_of, programs_of}
 use Rattle.world_close.specs.worlds.Tasks.{Tasked}
-use Rattle.world_close.specs.worlds.World.{StationValue}
-use Rattle.world_close.specs.Closed.{AreStations, ended_station}
+use Rattle.world_close.specs.worlds.World.{WorldInodeValue}
+use Rattle.world_close.specs.Closed.{AreWorldInodes, ended_world_inode}
 use Rattle.world_close.specs.Finished.{IsFinished, state_at}
 
 -- ---- a task
@@ -44,14 +44,14 @@ are_stuck left_of tasks = not (list_all done_by tasks) && list_all (rests left_o
 
 -- ---- the world
 
-abbrev pub left_by : WorldConsts → List StationValue → List Entry → List Event → List RuleEntry
+abbrev pub left_by : WorldConsts → List WorldInodeValue → List Entry → List Event → List RuleEntry
     → List Tasked → EndedValue
-left_by consts stations list signals added tasks = record {
-  inodes = map ended_station stations;
+left_by consts world_inodes list signals added tasks = record {
+  inodes = map ended_world_inode world_inodes;
   list = list;
   banks = banks_of list;
   tasks = map task_left tasks;
-  stuck = are_stuck (λ sem. left sem (past signals)) tasks;
+  stuck = are_stuck (λ sem. left sem (newest_first signals)) tasks;
   template = consts.settings.template;
   rules = added;
   base = length consts.base;
@@ -61,10 +61,11 @@ left_by consts stations list signals added tasks = record {
 -- the final state of the closed lists and the tasks is the final state of the run
 abbrev pub ClosedIsLeft : Type 0
 ClosedIsLeft =
-    (consts : WorldConsts) (stations : List StationValue) (list : List Entry) (signals : List Event)
-    (added : List RuleEntry) (tasks : List Tasked) → AreStations consts stations
+    (consts : WorldConsts) (world_inodes : List WorldInodeValue) (list : List Entry)
+    (signals : List Event)
+    (added : List RuleEntry) (tasks : List Tasked) → AreWorldInodes consts world_inodes
     → IsFinished (scene_of consts (programs_of tasks))
-    (moment_of (state_at stations list signals added) tasks)
-    → left_by consts stations list signals added tasks
+    (moment_of (state_at world_inodes list signals added) tasks)
+    → left_by consts world_inodes list signals added tasks
     ≡ ended_of (scene_of consts (programs_of tasks))
-    (run_at (moment_of (state_at stations list signals added) tasks))
+    (run_at (moment_of (state_at world_inodes list signals added) tasks))

@@ -2,7 +2,7 @@
 use Rattle.std.specs.Prelude.{◌≡◌, ℕ, ◌+◌, ◌<◌, ◌≤◌, List, length, Some, slice_get}
 use Rattle.grow_list.specs.Shown.{ListName, Passed}
 use Rattle.inode_events.specs.declared.told.Event.{Event}
-use Rattle.world_model.specs.World.{StationValue}
+use Rattle.world_model.specs.World.{WorldInodeValue}
 
 -- the row of task k has a pass of each of the first n journals
 pub record RowFits (n : ℕ) (names : ℕ → ListName) (k : ℕ) (row : List (Passed Event)) : Type 0 where
@@ -30,6 +30,7 @@ pub record RowsMid (k n : ℕ) (names : ℕ → ListName) (rows : List (List (Pa
       → RowFits (n + 1) names j row
 
 -- the journal of the k-th inode has the k-th name, and as callers itself and each task
-abbrev pub AreNamed : (ℕ → ListName) → ℕ → List StationValue → Type 0
-AreNamed names tasks stations = (k : ℕ) (s : StationValue) → slice_get stations k ≡ Some s
+abbrev pub AreNamed : (ℕ → ListName) → ℕ → List WorldInodeValue → Type 0
+AreNamed names tasks world_inodes =
+    (k : ℕ) (s : WorldInodeValue) → slice_get world_inodes k ≡ Some s
     → (s.cell.journal ≡ names k) × (s.cell.callers ≡ tasks + 1)

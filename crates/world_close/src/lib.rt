@@ -8,7 +8,7 @@ mod lists;
 mod parts;
 mod resting;
 mod rows;
-mod stations;
+mod world_inodes;
 
 pub use lists::{Lists, close_lists};
 pub use parts::Parts;

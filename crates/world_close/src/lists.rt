@@ -3,11 +3,11 @@ ghost use Rattle.measure_book.specs.Replay.{banks_of};
 ghost use Rattle.world_model.specs.WorldConsts.{WorldConsts};
 ghost use Rattle.world_model.specs.Tasks.{ArePassesOf, PassesValue};
 ghost use Rattle.world_model.specs.World.{AreRulesOf, AreSignalsOf, IsBookOf};
-ghost use Rattle.world_close.specs.Closed.{AreReturned, AreSpares, AreStations, WorldClosed, ended_station};
+ghost use Rattle.world_close.specs.Closed.{AreReturned, AreSpares, AreWorldInodes, WorldClosed, ended_world_inode};
 
 use crate::parts::Parts;
 use crate::rows::Row;
-use crate::stations::{Closed, close_stations};
+use crate::world_inodes::{Closed, close_world_inodes};
 use grow_list::Pass;
 use ima_templates::Entry;
 use inode_events::{EndedInode, Event};
@@ -15,7 +15,7 @@ use measure_book::registers::Banks;
 use policy_cell::RuleEntry;
 use std::alloc::{AllocError as OutOfMemory, Global};
 use std::marker::Model;
-use world_model::{Passes, Station};
+use world_model::{Passes, WorldInode};
 
 /// The closed lists of a world. Contracts see a record of the fields, with each vector as a list.
 #[derive(Drop)]
@@ -45,14 +45,14 @@ impl Model for Lists {
 
 // The passes of all tasks, sorted by the list that each belongs to.
 #[derive(Drop)]
-struct Parted {
+struct PassesByList {
     rows: Vec<Row>,
     sems: Vec<Pass<Event>>,
     book: Vec<Pass<Entry>>,
     rules: Vec<Pass<RuleEntry>>,
 }
 
-fn part(alloc: Global, passes: Vec<Passes>) -> Result<Parted, OutOfMemory>
+fn split_by_list(alloc: Global, passes: Vec<Passes>) -> Result<PassesByList, OutOfMemory>
     ensures rows { IfOk result (λ p. p.rows.items
         ≡ map (λ (q : PassesValue). q.inodes) passes.items) }
     ensures sems { IfOk result (λ p. p.sems.items
@@ -62,7 +62,7 @@ fn part(alloc: Global, passes: Vec<Passes>) -> Result<Parted, OutOfMemory>
     ensures rules { IfOk result (λ p. p.rules.items
         ≡ map (λ (q : PassesValue). q.rules) passes.items) }
 {
-    let mut parted = Parted {
+    let mut by_list = PassesByList {
         rows: Vec::new(alloc),
         sems: Vec::new(alloc),
         book: Vec::new(alloc),
@@ -75,24 +75,24 @@ fn part(alloc: Global, passes: Vec<Passes>) -> Result<Parted, OutOfMemory>
             book,
             rules,
         } = one;
-        parted.rows.push(Row::new(inodes))?;
-        parted.sems.push(sems)?;
-        parted.book.push(book)?;
-        parted.rules.push(rules)?;
+        by_list.rows.push(Row::new(inodes))?;
+        by_list.sems.push(sems)?;
+        by_list.book.push(book)?;
+        by_list.rules.push(rules)?;
     }
-    Ok(parted)
+    Ok(by_list)
 }
 
 // The closed inodes, and all passes of the other lists, each list's in the order of their numbers.
 #[derive(Drop)]
 struct Returned {
     inodes: Vec<EndedInode>,
-    listers: Vec<Pass<Entry>>,
+    list_passes: Vec<Pass<Entry>>,
     signals: Vec<Pass<Event>>,
     appenders: Vec<Pass<RuleEntry>>,
 }
 
-fn join_listers(
+fn join_list_passes(
     inodes: Vec<Pass<Entry>>,
     tasks: Vec<Pass<Entry>>,
 ) -> Result<Vec<Pass<Entry>>, OutOfMemory>
@@ -122,36 +122,37 @@ fn join_appenders(
 // Closes the inodes, and collects the passes of the other lists.
 fn take_back(
     alloc: Global,
-    stations: Vec<Station>,
+    world_inodes: Vec<WorldInode>,
     spares: Vec<Pass<RuleEntry>>,
     passes: Vec<Passes>,
 ) -> Result<Returned, OutOfMemory>
     ghost consts: { WorldConsts }
-    requires stations { AreStations consts stations.items }
+    requires world_inodes { AreWorldInodes consts world_inodes.items }
     requires count { length passes.items ≡ consts.tasks }
     requires passes { (n : ℕ) (p : PassesValue) → slice_get passes.items n ≡ Some p
         → ArePassesOf consts n p }
-    ensures { IfOk result (λ r. AreReturned stations.items spares.items passes.items r.inodes.items
-        r.listers.items r.signals.items r.appenders.items) }
+    ensures { IfOk result
+        (λ r. AreReturned world_inodes.items spares.items passes.items r.inodes.items
+        r.list_passes.items r.signals.items r.appenders.items) }
 {
-    let parted = part(alloc, passes)?;
-    let Parted {
+    let by_list = split_by_list(alloc, passes)?;
+    let PassesByList {
         rows,
         sems: signals,
         book: tasks,
         rules: appenders,
-    } = parted;
-    let closed = close_stations(alloc, stations, rows)?;
+    } = by_list;
+    let closed = close_world_inodes(alloc, world_inodes, rows)?;
     let Closed {
         inodes,
-        book: listers,
-        rules: counters,
+        book: list_passes,
+        rules: rule_passes,
     } = closed;
-    let listers = join_listers(listers, tasks)?;
-    let appenders = join_appenders(appenders, counters, spares)?;
+    let list_passes = join_list_passes(list_passes, tasks)?;
+    let appenders = join_appenders(appenders, rule_passes, spares)?;
     Ok(Returned {
         inodes,
-        listers,
+        list_passes,
         signals,
         appenders,
     })
@@ -160,7 +161,7 @@ fn take_back(
 /// Closes all lists of a world, to which the tasks' passes are returned.
 pub fn close_lists(parts: Parts, passes: Vec<Passes>) -> Result<Lists, OutOfMemory>
     ghost consts: { WorldConsts }
-    requires stations { AreStations consts parts.stations.items }
+    requires world_inodes { AreWorldInodes consts parts.world_inodes.items }
     requires book { IsBookOf consts parts.book }
     requires sems { AreSignalsOf consts parts.sems }
     requires rules { AreRulesOf consts parts.rules }
@@ -168,15 +169,15 @@ pub fn close_lists(parts: Parts, passes: Vec<Passes>) -> Result<Lists, OutOfMemo
     requires count { length passes.items ≡ consts.tasks }
     requires passes { (n : ℕ) (p : PassesValue) → slice_get passes.items n ≡ Some p
         → ArePassesOf consts n p }
-    ensures inodes { IfOk result (λ r. r.inodes ≡ map ended_station parts.stations.items) }
+    ensures inodes { IfOk result (λ r. r.inodes ≡ map ended_world_inode parts.world_inodes.items) }
     ensures list { IfOk result (λ r. r.list ≡ parts.book.list) }
     ensures banks { IfOk result (λ r. r.banks ≡ banks_of parts.book.list) }
     ensures rules { IfOk result (λ r. r.rules ≡ parts.rules.appended.list) }
-    ensures closed { IfOk result (λ r. WorldClosed consts parts.stations.items parts.book.list
+    ensures closed { IfOk result (λ r. WorldClosed consts parts.world_inodes.items parts.book.list
         parts.sems.list parts.rules.appended.list passes.items) }
 {
     let Parts {
-        stations,
+        world_inodes,
         book,
         sems,
         rules,
@@ -186,14 +187,14 @@ pub fn close_lists(parts: Parts, passes: Vec<Passes>) -> Result<Lists, OutOfMemo
         tasks: _,
         alloc,
     } = parts;
-    let back = take_back(alloc, stations, spares, passes)?;
+    let back = take_back(alloc, world_inodes, spares, passes)?;
     let Returned {
         inodes,
-        listers,
+        list_passes,
         signals,
         appenders,
     } = back;
-    let (list, banks) = book.close(listers);
+    let (list, banks) = book.close(list_passes);
     let _signals = sems.close(signals);
     let rules = rules.close(appenders);
     Ok(Lists {

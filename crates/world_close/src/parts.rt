@@ -5,14 +5,14 @@ use policy_cell::{PolicyCell, RuleEntry};
 use policy_rules::Super;
 use semaphore_cell::SemaphoreCell;
 use std::alloc::Global;
-use world_model::Station;
+use world_model::WorldInode;
 
 /// What the tasks of a world share: its lists and its constants. It is handed from the start of a
 /// world through its steps, on one thread or under locks, to its close.
 #[derive(Drop)]
 pub struct Parts {
     /// The inodes, in order.
-    pub stations: Vec<Station>,
+    pub world_inodes: Vec<WorldInode>,
     /// The measurement list.
     pub book: Book,
     /// The semaphores and their journal.

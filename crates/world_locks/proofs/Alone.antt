@@ -12,7 +12,7 @@ use Rattle.inode_events.specs.Asked.{outcome}
 use Rattle.inode_events.specs.Callers.{caller_of}
 use Rattle.inode_events.specs.Inode.{Inode}
 use Rattle.inode_events.specs.Legal.{Legal, May}
-use Rattle.inode_events.specs.Past.{past}
+use Rattle.inode_events.specs.NewestFirst.{newest_first}
 use Rattle.inode_events.specs.declared.deed.Deed.{Deed}
 use Rattle.inode_events.specs.declared.told.Event.{Event}
 use Rattle.inode_events.specs.declared.told.Told.{Told}
@@ -32,8 +32,8 @@ pub record CellLooked (old new : CellValue) (pass pass2 : Passed Event) : Type 0
   pub same_pass : (pass2.name ≡ pass.name) × (pass2.number ≡ pass.number)
   pub tells : TellsByMine old.inode pass2.number pass.seen old.list pass2.mine
   pub own : entries_of pass2.number (map caller_of old.list) old.list ≡ pass2.mine
-  pub legal : Legal old.inode (past old.list)
-  pub owned : IsOwned (past old.list)
+  pub legal : Legal old.inode (newest_first old.list)
+  pub owned : IsOwned (newest_first old.list)
 
 module _ (old between : CellValue) (pass pass1 : Passed Event)
     (look : CellLooked old between pass pass1) where
@@ -57,10 +57,11 @@ module _ (old between : CellValue) (pass pass1 : Passed Event)
   may_after d may =
       let x : MayBy old pass.number d = may has_looked in
       record {
-        may = subst (λ (i : Inode). May i (past between.list) d) (sym look.same.inode)
-            (subst (λ (xs : List Event). May old.inode (past xs) d) (sym look.list) x.may);
-        by = subst (λ (n : ℕ). IsBy n d (past between.list)) (sym look.same_pass.1)
-            (subst (λ (xs : List Event). IsBy pass.number d (past xs)) (sym look.list) x.by);
+        may = subst (λ (i : Inode). May i (newest_first between.list) d) (sym look.same.inode)
+            (subst (λ (xs : List Event). May old.inode (newest_first xs) d) (sym look.list) x.may);
+        by = subst (λ (n : ℕ). IsBy n d (newest_first between.list)) (sym look.same_pass.1)
+            (subst (λ (xs : List Event). IsBy pass.number d (newest_first xs))
+            (sym look.list) x.by);
       }
 
   -- the effect of the deed after the look is one on the cell before the look
@@ -91,10 +92,10 @@ module _ (old between : CellValue) (pass pass1 : Passed Event)
         → IfOk r (λ x. (list : List Entry)
         → Acts between new list list pass1 pass2 who d (Some (f x)))
         → IfOk r (λ x. (list : List Entry)
-        → Some (f x) ≡ outcome old.inode list d (past old.list))
+        → Some (f x) ≡ outcome old.inode list d (newest_first old.list))
     told_alone (Ok x) a =
         λ list.
         (a list).told
-        ∙ ap (λ (i : Inode). outcome i list d (past between.list)) look.same.inode
-        ∙ ap (λ (xs : List Event). outcome old.inode list d (past xs)) look.list
+        ∙ ap (λ (i : Inode). outcome i list d (newest_first between.list)) look.same.inode
+        ∙ ap (λ (xs : List Event). outcome old.inode list d (newest_first xs)) look.list
     told_alone (Err e) a = tt

@@ -8,7 +8,7 @@ use Rattle.grow_list.specs.Shown.{Grown, IsSameList, Passed}
 use Rattle.ima_templates.specs.declared.entry.Entry.{Entry}
 use Rattle.inode_meta.specs.declared.identity.Cred.{Cred}
 use Rattle.inode_meta.specs.declared.step.Who.{Who}
-use Rattle.inode_events.specs.Past.{past}
+use Rattle.inode_events.specs.NewestFirst.{newest_first}
 use Rattle.inode_events.specs.State.{metadata}
 use Rattle.inode_events.specs.declared.deed.Deed.{Deed}
 use Rattle.inode_events.specs.declared.told.Event.{Event}
@@ -16,20 +16,20 @@ use Rattle.policy_cell.specs.Policy.{PolicyValue, in_force, rules_in}
 use Rattle.policy_cell.specs.declared.cell.RuleEntry.{RuleEntry}
 use Rattle.policy_rules.specs.RuleValue.{RuleValue}
 use Rattle.policy_rules.specs.declared.access.Super.{Super}
-use Rattle.world_close.specs.laws_of_runs.Stations.{CountsAll}
+use Rattle.world_close.specs.laws_of_runs.ScriptFiles.{CountsAll}
 use Rattle.run_model.specs.Scene.{no_super, rules_with}
 use Rattle.task_steps.specs.declared.listed.Checks.{Checks}
 use Rattle.world_close.specs.worlds.WorldConsts.{WorldConsts, scene_of, super_at}
-use Rattle.world_close.specs.worlds.World.{AreRulesOf, IsBookOf, IsStation, StationValue}
+use Rattle.world_close.specs.worlds.World.{AreRulesOf, IsBookOf, IsWorldInode, WorldInodeValue}
 use Rattle.world_close.specs.worlds.declared.hash_state.HashState.{HashState}
 use Rattle.world_close.specs.worlds.declared.hash_state.HashState.TheVariants as hash_state
 use Rattle.task_steps.proofs.Looked.{force_count}
 use Rattle.task_steps.proofs.Looks.{at_index}
-use Rattle.task_steps.specs.Acting.{StationDid, told_in}
+use Rattle.task_steps.specs.Acting.{WorldInodeDid, told_in}
 use Rattle.task_steps.specs.Checking.{IsChecked, check_by}
-use Rattle.task_steps.specs.declared.answers.Answered.{Answered}
+use Rattle.task_steps.specs.declared.answers.StepResult.{StepResult}
 use Rattle.world_locks.proofs.Lists.{book_still, rules_still}
-use Rattle.world_locks.proofs.Stations.{station_looked, station_still}
+use Rattle.world_locks.proofs.WorldInodes.{world_inode_looked, world_inode_still}
 use Rattle.world_locks.specs.Tagged.{AskMet}
 
 -- a look of a pass at the appended rules, which leaves the rules as they were
@@ -53,8 +53,8 @@ super_is : (supers : List Super) (k : ℕ) (x : Super) → k < length supers →
 super_is supers k x l e =
     sym (get_or_from_slice_get supers k x no_super (at_index supers k x x l e))
 
-module _ {E : Type 0} (consts : WorldConsts) (i : ℕ) (st st2 : StationValue)
-    (is : IsStation consts i st)
+module _ {E : Type 0} (consts : WorldConsts) (i : ℕ) (st st2 : WorldInodeValue)
+    (is : IsWorldInode consts i st)
     (rules between rules2 : PolicyValue) (are : AreRulesOf consts rules)
     (q own own2 : Passed RuleEntry) (first : LooksAt rules between st.rules q)
     (second : LooksAt between rules2 own own2) (supers : List Super)
@@ -62,16 +62,19 @@ module _ {E : Type 0} (consts : WorldConsts) (i : ℕ) (st st2 : StationValue)
     (place_is : place ≡ get_or supers st.place place) (index : List RuleValue)
     (index_is : index ≡ in_force rules2) (book book2 : Grown Entry) (pass pass2 : Passed Event)
     (listed listed2 : Passed Entry) (who : Who) (cred : Cred) (asked : Checks)
-    (r : Result (Option Answered) E)
-    (did : (g : HashState) → StationDid (record st { rules = q }) st2 book book2 pass pass2 listed
-    listed2 who (check_by index cred place (metadata (past st.cell.list)) asked) g g (told_in r))
+    (r : Result (Option StepResult) E)
+    (did : (g : HashState) → WorldInodeDid (record st {
+      rules = q;
+    }) st2 book book2 pass pass2 listed
+    listed2 who (check_by index cred place (metadata (newest_first st.cell.list)) asked) g g
+    (told_in r))
     (told : IsChecked st.cell.inode st.cell.list book.list index cred place asked r) where
   -- the inode after its pass has looked
-  abbrev st1 : StationValue
+  abbrev st1 : WorldInodeValue
   st1 = record st { rules = q }
 
-  is1 : IsStation consts i st1
-  is1 = station_looked consts i st is q first.same first.mine
+  is1 : IsWorldInode consts i st1
+  is1 = world_inode_looked consts i st is q first.same first.mine
       (looks_more rules between st.rules q first)
 
   pub rules_kept : AreRulesOf consts rules2
@@ -84,22 +87,22 @@ module _ {E : Type 0} (consts : WorldConsts) (i : ℕ) (st st2 : StationValue)
 
   -- the check counts all rules that the inode's pass has seen
   counts : CountsAll (length consts.base + length q.seen)
-      (check_by index cred place (metadata (past st.cell.list)) asked)
+      (check_by index cred place (metadata (newest_first st.cell.list)) asked)
   counts =
       ap length index_is ∙ force_count rules2
       ∙ ap (λ (xs : List RuleEntry). length rules2.base + length xs) (sym seen)
       ∙ ap (λ (xs : List RuleValue). length xs + length q.seen) rules_kept.base
 
-  pub asked_station : IsStation consts i st2
-  asked_station =
-      station_still consts i st1 is1 st2 book book2 pass pass2 listed listed2 who
-      (check_by index cred place (metadata (past st.cell.list)) asked) hash_state.Idle
+  pub asked_world_inode : IsWorldInode consts i st2
+  asked_world_inode =
+      world_inode_still consts i st1 is1 st2 book book2 pass pass2 listed listed2 who
+      (check_by index cred place (metadata (newest_first st.cell.list)) asked) hash_state.Idle
       hash_state.Idle (told_in r) (did hash_state.Idle) counts
 
   pub asked_book : IsBookOf consts book → IsBookOf consts book2
   asked_book =
       book_still consts st1 st2 book book2 pass pass2 listed listed2 who
-      (check_by index cred place (metadata (past st.cell.list)) asked) hash_state.Idle
+      (check_by index cred place (metadata (newest_first st.cell.list)) asked) hash_state.Idle
       hash_state.Idle (told_in r) (did hash_state.Idle)
 
   -- these are all rules in force, and the file system is the inode's
@@ -115,18 +118,18 @@ module _ {E : Type 0} (consts : WorldConsts) (i : ℕ) (st st2 : StationValue)
 
   pub asks : AskMet consts i pass pass2 own own2 listed listed2 who cred asked r
   asks = record {
-    station = st1;
-    station2 = st2;
+    world_inode = st1;
+    world_inode2 = st2;
     book = book;
     book2 = book2;
     added = rules2.appended.list;
     is = is1;
-    did = λ g. subst (λ (d : Deed). StationDid st1 st2 book book2 pass pass2 listed listed2 who d g
-        g (told_in r))
-        (ap (λ (xs : List RuleValue). check_by xs cred place (metadata (past st.cell.list)) asked)
-        all_rules
+    did = λ g. subst (λ (d : Deed). WorldInodeDid st1 st2 book book2 pass pass2 listed listed2 who
+        d g g (told_in r))
+        (ap (λ (xs : List RuleValue). check_by xs cred place
+        (metadata (newest_first st.cell.list)) asked) all_rules
         ∙ ap (λ (x : Super). check_by (rules_with (scene_of consts []) rules2.appended.list) cred x
-        (metadata (past st.cell.list)) asked) its_super) (did g);
+        (metadata (newest_first st.cell.list)) asked) its_super) (did g);
     told = subst (λ (x : Super). IsChecked st.cell.inode st.cell.list book.list
         (rules_with (scene_of consts []) rules2.appended.list) cred x asked r) its_super
         (subst (λ (xs : List RuleValue). IsChecked st.cell.inode st.cell.list book.list xs cred

@@ -1,4 +1,4 @@
-pub mod Stations
+pub mod WorldInodes
 pub mod Lists
 pub mod Asking
 pub mod Meeting

@@ -7,16 +7,16 @@ use Rattle.ima_templates.specs.Same.{add, add_by, place_of_same}
 use Rattle.ima_templates.specs.declared.entry.Entry.{Entry}
 use Rattle.inode_meta.specs.declared.step.Who.{Who}
 use Rattle.inode_events.specs.Asked.{asked, list_after}
-use Rattle.inode_events.specs.Past.{past}
+use Rattle.inode_events.specs.NewestFirst.{newest_first}
 use Rattle.inode_events.specs.declared.deed.Deed.{Deed}
 use Rattle.inode_events.specs.declared.told.Event.{Event}
 use Rattle.inode_events.specs.declared.told.Told.{Told}
 use Rattle.policy_cell.specs.Policy.{PolicyValue}
 use Rattle.policy_cell.specs.declared.cell.RuleEntry.{RuleEntry}
 use Rattle.world_close.specs.worlds.WorldConsts.{WorldConsts}
-use Rattle.world_close.specs.worlds.World.{AreRulesOf, IsBookOf, StationValue}
+use Rattle.world_close.specs.worlds.World.{AreRulesOf, IsBookOf, WorldInodeValue}
 use Rattle.world_close.specs.worlds.declared.hash_state.HashState.{HashState}
-use Rattle.task_steps.specs.Acting.{StationDid}
+use Rattle.task_steps.specs.Acting.{WorldInodeDid}
 
 -- ---- the measurement list
 
@@ -36,15 +36,16 @@ first_stays (x ∷ xs) b e None h = h
 first_stays (x ∷ xs) b None (Some t) h = h
 first_stays (x ∷ xs) b (Some e) (Some t) h = added_first x xs e ∙ h
 
-pub book_still : (consts : WorldConsts) (st st2 : StationValue) (book book2 : Grown Entry)
+pub book_still : (consts : WorldConsts) (st st2 : WorldInodeValue) (book book2 : Grown Entry)
     (pass pass2 : Passed Event) (listed listed2 : Passed Entry) (who : Who) (d : Deed)
     (g g2 : HashState) (o : Option Told)
-    → StationDid st st2 book book2 pass pass2 listed listed2 who d g g2 o
+    → WorldInodeDid st st2 book book2 pass pass2 listed listed2 who d g g2 o
     → IsBookOf consts book → IsBookOf consts book2
 book_still consts st st2 book book2 pass pass2 listed listed2 who d g g2 o did is = record {
   name = did.book_name ∙ is.name;
   boot = ap (λ (xs : List Entry). slice_get xs 0) did.leaves.book
-      ∙ first_stays book.list consts.boot (asked st.cell.inode d (past st.cell.list)) o is.boot;
+      ∙ first_stays book.list consts.boot (asked st.cell.inode d (newest_first st.cell.list))
+      o is.boot;
   callers = did.book_callers ∙ is.callers;
 }
 

@@ -11,7 +11,7 @@ use Rattle.inode_meta.specs.declared.identity.Cred.{Cred}
 use Rattle.inode_meta.specs.declared.step.Who.{Who}
 use Rattle.inode_events.specs.Asked.{asked, list_after, made, outcome}
 use Rattle.inode_events.specs.Inode.{Inode}
-use Rattle.inode_events.specs.Past.{past}
+use Rattle.inode_events.specs.NewestFirst.{newest_first}
 use Rattle.inode_events.specs.State.{metadata}
 use Rattle.inode_events.specs.declared.deed.Deed.{Deed}
 use Rattle.inode_events.specs.declared.told.Event.{Event}
@@ -20,9 +20,9 @@ use Rattle.policy_cell.specs.declared.cell.RuleEntry.{RuleEntry}
 use Rattle.run_model.specs.Scene.{rules_with}
 use Rattle.run_model.specs.Turns.{State, state_on}
 use Rattle.task_steps.specs.declared.listed.Checks.{Checks}
-use Rattle.world_close.specs.worlds.WorldConsts.{Site, WorldConsts, inode_in, scene_of, super_at}
+use Rattle.world_close.specs.worlds.WorldConsts.{InodeConsts, WorldConsts, inode_in, scene_of, super_at}
 use Rattle.world_close.specs.worlds.Tasks.{PassesValue}
-use Rattle.world_close.specs.worlds.World.{IsStation, StationValue, site_of}
+use Rattle.world_close.specs.worlds.World.{IsWorldInode, WorldInodeValue, inode_consts_of}
 use Rattle.world_close.specs.worlds.declared.hash_state.HashState.{HashState}
 use Rattle.task_steps.proofs.about_worlds.Eventing.{adds_none, get_map, get_set}
 use Rattle.task_steps.specs.worlds.Due.{HashesTold}
@@ -30,10 +30,10 @@ use Rattle.task_steps.specs.worlds.Events.{EventOn}
 use Rattle.task_steps.specs.worlds.Ready.{HasLooked}
 use Rattle.task_steps.specs.worlds.Steps.{Adds}
 use Rattle.task_steps.proofs.Lists.{map_set}
-use Rattle.task_steps.specs.Acting.{EventIn, IsPlacedAt, IsSaid, StationDid, told_in, told_of}
+use Rattle.task_steps.specs.Acting.{EventIn, IsPlacedAt, IsSaid, WorldInodeDid, told_in, told_of}
 use Rattle.task_steps.specs.Checking.{CheckIn, IsChecked, check_by}
-use Rattle.task_steps.specs.declared.answers.Answered.{Answered}
-use Rattle.world_locks.proofs.Stations.{inode_same}
+use Rattle.task_steps.specs.declared.answers.StepResult.{StepResult}
+use Rattle.world_locks.proofs.WorldInodes.{inode_same}
 use Rattle.world_locks.specs.Tagged.{AskMet, DeedMet}
 use Rattle.world_locks.specs.Met.{CheckMet, EventMet, seen_of, state_met, state_seen}
 
@@ -53,9 +53,9 @@ nothing_after (x ∷ xs) (suc i) h = nothing_after xs i (omega arith)
 -- ---- a step on an inode that is there
 
 module _ (consts : WorldConsts) (i : ℕ) (passes passes2 : PassesValue) (who : Who) (d : Deed)
-    (g g2 : HashState) (o : Option Told) (pass pass2 : Passed Event) (st st2 : StationValue)
-    (book book2 : Grown Entry) (added : List RuleEntry) (is : IsStation consts i st)
-    (did : StationDid st st2 book book2 pass pass2 passes.book passes2.book who d g g2 o)
+    (g g2 : HashState) (o : Option Told) (pass pass2 : Passed Event) (st st2 : WorldInodeValue)
+    (book book2 : Grown Entry) (added : List RuleEntry) (is : IsWorldInode consts i st)
+    (did : WorldInodeDid st st2 book book2 pass pass2 passes.book passes2.book who d g g2 o)
     (at : slice_get passes.inodes i ≡ Some pass) (number : pass.number ≡ who.task + 1)
     (inodes : passes2.inodes ≡ slice_set passes.inodes i pass2)
     (semaphores : passes2.sems ≡ passes.sems) (adds : Adds passes.rules passes2.rules [])
@@ -85,10 +85,10 @@ module _ (consts : WorldConsts) (i : ℕ) (passes passes2 : PassesValue) (who : 
       (get_or Old.journals i [] ++ made who d o))
 
   list_is : passes2.book.seen
-      ≡ list_after book.list (asked st.cell.inode d (past (get_or Old.journals i []))) o
+      ≡ list_after book.list (asked st.cell.inode d (newest_first (get_or Old.journals i []))) o
   list_is =
       did.seen ∙ did.leaves.book
-      ∙ ap (λ (xs : List Event). list_after book.list (asked st.cell.inode d (past xs)) o)
+      ∙ ap (λ (xs : List Event). list_after book.list (asked st.cell.inode d (newest_first xs)) o)
       (sym here)
 
   -- after the deed the passes have seen the lists as it left them
@@ -101,7 +101,8 @@ module _ (consts : WorldConsts) (i : ℕ) (passes passes2 : PassesValue) (who : 
   }
 
   -- the event, from the view of its task
-  pub event_met : EventOn consts i (site_of st) who d Old (state_seen passes2) passes passes2 g g2 o
+  pub event_met : EventOn consts i (inode_consts_of st) who d Old (state_seen passes2) passes
+      passes2 g g2 o
   event_met = record {
     journal = st.cell.list;
     journal_at = journal_met;
@@ -132,17 +133,19 @@ module _ (consts : WorldConsts) (i : ℕ) (passes passes2 : PassesValue) (who : 
   }
 
   -- the answer's outcome is the one on the lists that the deed met
-  pub said_met : (a : Option Answered)
-      → told_of a ≡ outcome st.cell.inode book.list d (past st.cell.list)
+  pub said_met : (a : Option StepResult)
+      → told_of a ≡ outcome st.cell.inode book.list d (newest_first st.cell.list)
       → IsPlacedAt (length st.cell.list) a → IsSaid consts i d Old a
   said_met a told place s journal there journal_at =
-      let site : site_of st ≡ s = same_Some (site_of st) s (sym is.site ∙ there) in
+      let inode_consts : inode_consts_of st ≡ s =
+      same_Some (inode_consts_of st) s (sym is.inode_consts ∙ there) in
       let list : st.cell.list ≡ journal =
       same_Some st.cell.list journal (sym journal_met ∙ journal_at) in (
         told
-            ∙ ap (λ (x : Inode). outcome x book.list d (past st.cell.list))
-            (sym (inode_same consts i st is) ∙ ap (inode_in consts) site)
-            ∙ ap (λ (xs : List Event). outcome (inode_in consts s) book.list d (past xs)) list,
+            ∙ ap (λ (x : Inode). outcome x book.list d (newest_first st.cell.list))
+            (sym (inode_same consts i st is) ∙ ap (inode_in consts) inode_consts)
+            ∙ ap (λ (xs : List Event). outcome (inode_in consts s) book.list d (newest_first xs))
+            list,
         subst (λ (xs : List Event). IsPlacedAt (length xs) a) list place,
       )
 
@@ -150,23 +153,23 @@ module _ (consts : WorldConsts) (i : ℕ) (passes passes2 : PassesValue) (who : 
 
 -- on an inode that isn't there nothing is done
 pub none_met : {E : Type 0} (consts : WorldConsts) (i : ℕ) (passes : PassesValue) (who : Who)
-    (d : Deed) (g : HashState) → length consts.sites ≤ i
+    (d : Deed) (g : HashState) → length consts.each_inode ≤ i
     → EventMet {E = E} consts i who d passes passes g g (Ok None)
 none_met consts i passes who d g h =
-    let none : slice_get consts.sites i ≡ None = nothing_after consts.sites i h in
+    let none : slice_get consts.each_inode i ≡ None = nothing_after consts.each_inode i h in
     record {
       old = state_seen passes;
-      event = subst (λ (x : Option Site). EventIn consts i x who d (state_seen passes)
+      event = subst (λ (x : Option InodeConsts). EventIn consts i x who d (state_seen passes)
           (state_seen passes) passes passes g g None) (sym none)
           (record { state = refl; left = refl; hash_state = refl; told = refl });
-      told = λ s journal there journal_at. absurd (no_site s (sym none ∙ there));
+      told = λ s journal there journal_at. absurd (no_inode_consts s (sym none ∙ there));
     } where
-      no_site : (s : Site) → None ≡ Some s → ⊥
-      no_site s e = cc
+      no_inode_consts : (s : InodeConsts) → None ≡ Some s → ⊥
+      no_inode_consts s e = cc
 
 pub deed_met : {E : Type 0} (consts : WorldConsts) (i : ℕ) (passes passes2 : PassesValue)
     (who : Who)
-    (d : Deed) (g g2 : HashState) (pass pass2 : Passed Event) (r : Result (Option Answered) E)
+    (d : Deed) (g g2 : HashState) (pass pass2 : Passed Event) (r : Result (Option StepResult) E)
     → DeedMet consts i pass pass2 passes.book passes2.book who d g g2 r
     → slice_get passes.inodes i ≡ Some pass → pass.number ≡ who.task + 1
     → passes2.inodes ≡ slice_set passes.inodes i pass2 → passes2.sems ≡ passes.sems
@@ -174,27 +177,27 @@ pub deed_met : {E : Type 0} (consts : WorldConsts) (i : ℕ) (passes passes2 : P
     → EventMet consts i who d passes passes2 g g2 r
 deed_met {E} consts i passes passes2 who d g g2 pass pass2 r m at number inodes semaphores rules =
     record {
-      old = state_met passes i m.station.cell.list m.book.list passes.rules.seen;
-      event = subst (λ (x : Option Site). EventIn consts i x who d
-          (state_met passes i m.station.cell.list m.book.list passes.rules.seen)
-          (state_seen passes2) passes passes2 g g2 (told_in r)) (sym m.is.site)
-          (event_met consts i passes passes2 who d g g2 (told_in r) pass pass2 m.station m.station2
-          m.book m.book2 passes.rules.seen m.is m.did at number inodes semaphores
+      old = state_met passes i m.world_inode.cell.list m.book.list passes.rules.seen;
+      event = subst (λ (x : Option InodeConsts). EventIn consts i x who d
+          (state_met passes i m.world_inode.cell.list m.book.list passes.rules.seen)
+          (state_seen passes2) passes passes2 g g2 (told_in r)) (sym m.is.inode_consts)
+          (event_met consts i passes passes2 who d g g2 (told_in r) pass pass2 m.world_inode
+          m.world_inode2 m.book m.book2 passes.rules.seen m.is m.did at number inodes semaphores
           (adds_none passes.rules passes2.rules rules)
           (subst (λ (q : Passed RuleEntry). IsPrefix passes.rules.seen q.seen) (sym rules)
           (prefix_refl passes.rules.seen))
           (ap (λ (q : Passed RuleEntry). q.seen) rules));
       told = said r m.told m.place;
     } where
-      said : (x : Result (Option Answered) E)
+      said : (x : Result (Option StepResult) E)
           → IfOk x (λ o. told_of o
-          ≡ outcome m.station.cell.inode m.book.list d (past m.station.cell.list))
-          → IfOk x (λ o. IsPlacedAt (length m.station.cell.list) o)
+          ≡ outcome m.world_inode.cell.inode m.book.list d (newest_first m.world_inode.cell.list))
+          → IfOk x (λ o. IsPlacedAt (length m.world_inode.cell.list) o)
           → IfOk x (λ o. IsSaid consts i d
-          (state_met passes i m.station.cell.list m.book.list passes.rules.seen) o)
+          (state_met passes i m.world_inode.cell.list m.book.list passes.rules.seen) o)
       said (Ok a) told place =
-          said_met consts i passes passes2 who d g g2 (told_in r) pass pass2 m.station m.station2
-          m.book m.book2 passes.rules.seen m.is m.did at number inodes semaphores
+          said_met consts i passes passes2 who d g g2 (told_in r) pass pass2 m.world_inode
+          m.world_inode2 m.book m.book2 passes.rules.seen m.is m.did at number inodes semaphores
           (adds_none passes.rules passes2.rules rules)
           (subst (λ (q : Passed RuleEntry). IsPrefix passes.rules.seen q.seen) (sym rules)
           (prefix_refl passes.rules.seen))
@@ -203,42 +206,43 @@ deed_met {E} consts i passes passes2 who d g g2 pass pass2 r m at number inodes 
 
 -- a check of an inode that isn't there
 pub unasked_met : {E : Type 0} (consts : WorldConsts) (i : ℕ) (passes : PassesValue) (who : Who)
-    (cred : Cred) (asked : Checks) → length consts.sites ≤ i
+    (cred : Cred) (asked : Checks) → length consts.each_inode ≤ i
     → CheckMet {E = E} consts i who cred asked passes passes (Ok None)
 unasked_met {E} consts i passes who cred asked h = record {
   old = state_seen passes;
-  check = λ g. subst (λ (x : Option Site). CheckIn {E = E} consts i x who cred asked
+  check = λ g. subst (λ (x : Option InodeConsts). CheckIn {E = E} consts i x who cred asked
       (state_seen passes) (state_seen passes) passes passes g (Ok None))
-      (sym (nothing_after consts.sites i h))
+      (sym (nothing_after consts.each_inode i h))
       (record { state = refl; left = refl; hash_state = refl; told = refl });
 }
 
 pub ask_met : {E : Type 0} (consts : WorldConsts) (i : ℕ) (passes passes2 : PassesValue) (who : Who)
-    (cred : Cred) (asked : Checks) (pass pass2 : Passed Event) (r : Result (Option Answered) E)
+    (cred : Cred) (asked : Checks) (pass pass2 : Passed Event) (r : Result (Option StepResult) E)
     → AskMet consts i pass pass2 passes.rules passes2.rules passes.book passes2.book who cred asked
     r → slice_get passes.inodes i ≡ Some pass → pass.number ≡ who.task + 1
     → passes2.inodes ≡ slice_set passes.inodes i pass2 → passes2.sems ≡ passes.sems
     → CheckMet consts i who cred asked passes passes2 r
 ask_met {E} consts i passes passes2 who cred asked pass pass2 r m at number inodes semaphores =
-    let old : State = state_met passes i m.station.cell.list m.book.list m.added in
+    let old : State = state_met passes i m.world_inode.cell.list m.book.list m.added in
     let found : Deed =
-    check_by (rules_with (scene_of consts []) m.added) cred (super_at consts m.station.place)
-    (metadata (past m.station.cell.list)) asked in
+    check_by (rules_with (scene_of consts []) m.added) cred (super_at consts m.world_inode.place)
+    (metadata (newest_first m.world_inode.cell.list)) asked in
     record {
       old = old;
-      check = λ g. subst (λ (x : Option Site). CheckIn consts i x who cred asked old
-          (state_seen passes2) passes passes2 g r) (sym m.is.site)
+      check = λ g. subst (λ (x : Option InodeConsts). CheckIn consts i x who cred asked old
+          (state_seen passes2) passes passes2 g r) (sym m.is.inode_consts)
           (record {
-            journal = m.station.cell.list;
+            journal = m.world_inode.cell.list;
             journal_at = journal_met consts i passes passes2 who found g g (told_in r) pass pass2
-                m.station m.station2 m.book m.book2 m.added m.is (m.did g) at number inodes
+                m.world_inode m.world_inode2 m.book m.book2 m.added m.is (m.did g) at number inodes
                 semaphores m.adds m.before m.seen;
-            event = event_met consts i passes passes2 who found g g (told_in r) pass pass2 m.station
-                m.station2 m.book m.book2 m.added m.is (m.did g) at number inodes semaphores m.adds
-                m.before m.seen;
+            event = event_met consts i passes passes2 who found g g (told_in r) pass pass2
+                m.world_inode
+                m.world_inode2 m.book m.book2 m.added m.is (m.did g) at number inodes
+                semaphores m.adds m.before m.seen;
             seen = m.seen;
-            told = subst (λ (x : Inode). IsChecked x m.station.cell.list m.book.list
-                (rules_with (scene_of consts []) m.added) cred (super_at consts m.station.place)
-                asked r) (sym (inode_same consts i m.station m.is)) m.told;
+            told = subst (λ (x : Inode). IsChecked x m.world_inode.cell.list m.book.list
+                (rules_with (scene_of consts []) m.added) cred (super_at consts m.world_inode.place)
+                asked r) (sym (inode_same consts i m.world_inode m.is)) m.told;
           });
     }

@@ -15,10 +15,10 @@ use Rattle.world_close.specs.worlds.WorldConsts.{WorldConsts}
 use Rattle.world_close.specs.worlds.Tasks.{ArePassesOf, PassesValue}
 use Rattle.world_close.specs.worlds.declared.hash_state.HashState.{HashState}
 use Rattle.world_close.proofs.Gets.{got}
-use Rattle.world_close.specs.Closed.{no_site}
+use Rattle.world_close.specs.Closed.{no_inode_consts}
 use Rattle.task_steps.proofs.Looks.{at_index}
 use Rattle.task_steps.specs.Acting.{ReadyAt}
-use Rattle.task_steps.specs.declared.answers.Answered.{Answered}
+use Rattle.task_steps.specs.declared.answers.StepResult.{StepResult}
 use Rattle.world_locks.proofs.Meeting.{ask_met, deed_met}
 use Rattle.world_locks.proofs.Signals.{appends_met, signals_met}
 use Rattle.world_locks.specs.Tagged.{AppendMet, AskMet, DeedMet, IsPassAt, IsReadyBy, SignalMet}
@@ -38,7 +38,7 @@ module _ (inodes : List (Passed Event)) (sems : Passed Event) (book : Passed Ent
 
   -- a post or a wait by the pass of the semaphores
   pub signals_opened : {E : Type 0} (sems2 : Passed Event) (d : Deed)
-      (r : Result (Option Answered) E) → SignalMet sems sems2 who d r
+      (r : Result (Option StepResult) E) → SignalMet sems sems2 who d r
       → SignalsMet p (record opened { sems = sems2 }) who d r
   signals_opened sems2 d r m =
       subst (λ (x : PassesValue). SignalsMet x (record opened { sems = sems2 }) who d r) view
@@ -46,7 +46,7 @@ module _ (inodes : List (Passed Event)) (sems : Passed Event) (book : Passed Ent
 
   -- a rule appended by the pass of the rules
   pub appends_opened : {E : Type 0} (rules2 : Passed RuleEntry) (entry : RuleEntry)
-      (r : Result Answered E) → IfOk r (λ a. AppendMet rules rules2 entry a)
+      (r : Result StepResult E) → IfOk r (λ a. AppendMet rules rules2 entry a)
       → IfOk r (λ a. AppendsMet p (record opened { rules = rules2 }) entry a)
   appends_opened rules2 entry (Ok a) m =
       subst (λ (x : PassesValue). AppendsMet x (record opened { rules = rules2 }) entry a) view
@@ -56,7 +56,7 @@ module _ (inodes : List (Passed Event)) (sems : Passed Event) (book : Passed Ent
   -- ---- on the inode of a number, which is there
 
   module _ (consts : WorldConsts) (are : ArePassesOf consts who.task p) (i k : ℕ) (taken : k ≡ i)
-      (below : i < length consts.sites) (pass : Passed Event)
+      (below : i < length consts.each_inode) (pass : Passed Event)
       (pass_is : pass ≡ get_or inodes i pass) where
     -- the task's pass of the inode's journal is at its place
     pass_at : slice_get p.inodes i ≡ Some pass
@@ -67,33 +67,35 @@ module _ (inodes : List (Passed Event)) (sems : Passed Event) (book : Passed Ent
 
     its_number : pass.number ≡ who.task + 1
     its_number =
-        (are.inodes i (get_or consts.sites i no_site) pass (got consts.sites i no_site below)
-        pass_at).1
+        (are.inodes i (get_or consts.each_inode i no_inode_consts) pass
+        (got consts.each_inode i no_inode_consts below) pass_at).1
 
     -- the pass has the name of the inode's journal and the number of the task
     pub pass_of : IsPassAt consts k who.task pass
     pass_of s at =
-        are.inodes i s pass (ap (λ (n : ℕ). slice_get consts.sites n) (sym taken) ∙ at) pass_at
+        are.inodes i s pass (ap (λ (n : ℕ). slice_get consts.each_inode n) (sym taken) ∙ at) pass_at
 
     -- after a look by the pass the deed is ready
     pub ready_of : (g : HashState) (action : ActionValue) (slot : Slot) (d : Deed)
         → ReadyAt consts i p.inodes who.task g action slot d
         → IsReadyBy consts k who.task pass g action slot d
     ready_of g action slot d ready s list at looked =
-        ready s pass list (ap (λ (n : ℕ). slice_get consts.sites n) (sym taken) ∙ at) pass_at looked
+        ready s pass list (ap (λ (n : ℕ). slice_get consts.each_inode n) (sym taken) ∙ at)
+        pass_at looked
 
     -- after a look by the pass the deed may be done
     pub look_of : (d : Deed) → MayAt consts i p.inodes who.task d
         → MayByLook consts k who.task pass d
     look_of d may s list at looked =
-        may s pass list (ap (λ (n : ℕ). slice_get consts.sites n) (sym taken) ∙ at) pass_at looked
+        may s pass list (ap (λ (n : ℕ). slice_get consts.each_inode n) (sym taken) ∙ at)
+        pass_at looked
 
     opened_at : slice_get inodes i ≡ Some pass
     opened_at = subst (λ (x : PassesValue). slice_get x.inodes i ≡ Some pass) (sym view) pass_at
 
     -- a deed on the inode
     pub deed_opened : {E : Type 0} (pass2 : Passed Event) (book2 : Passed Entry) (d : Deed)
-        (g g2 : HashState) (r : Result (Option Answered) E)
+        (g g2 : HashState) (r : Result (Option StepResult) E)
         → DeedMet consts k pass pass2 book book2 who d g g2 r
         → EventMet consts i who d p
         (record opened { inodes = slice_set inodes i pass2; book = book2 }) g g2 r
@@ -108,7 +110,7 @@ module _ (inodes : List (Passed Event)) (sems : Passed Event) (book : Passed Ent
     -- a check of the inode
     pub ask_opened : {E : Type 0} (pass2 : Passed Event) (book2 : Passed Entry)
         (rules2 : Passed RuleEntry) (cred : Cred) (asked : Checks)
-        (r : Result (Option Answered) E)
+        (r : Result (Option StepResult) E)
         → AskMet consts k pass pass2 rules rules2 book book2 who cred asked r
         → CheckMet consts i who cred asked p (record opened {
           inodes = slice_set inodes i pass2;

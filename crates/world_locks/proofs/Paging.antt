@@ -13,7 +13,7 @@ use Rattle.inode_events.specs.Asked.{made, outcome}
 use Rattle.inode_events.specs.Inode.{Inode}
 use Rattle.inode_events.specs.Integrity.{Collection, collecting}
 use Rattle.inode_events.specs.Legal.{May}
-use Rattle.inode_events.specs.Past.{past}
+use Rattle.inode_events.specs.NewestFirst.{newest_first}
 use Rattle.inode_events.specs.State.{content}
 use Rattle.inode_events.specs.declared.deed.Deed.{Deed}
 use Rattle.inode_events.specs.declared.deed.Deed.TheVariants as deed
@@ -27,21 +27,21 @@ use Rattle.task_steps.specs.Hashed.{HasGathered}
 use Rattle.task_steps.specs.Leaving.{Leaves, told_by}
 use Rattle.world_close.specs.worlds.WorldConsts.{WorldConsts}
 use Rattle.world_close.specs.worlds.Tasks.{HashesBefore, HasTakenIn}
-use Rattle.world_close.specs.worlds.World.{IsStation, StationValue, site_of}
+use Rattle.world_close.specs.worlds.World.{IsWorldInode, WorldInodeValue, inode_consts_of}
 use Rattle.world_close.specs.worlds.declared.hash_state.HashState.{HashState}
 use Rattle.task_steps.proofs.about_worlds.Eventing.{adds_none}
 use Rattle.task_steps.specs.worlds.Due.{HashesAfter, HashesTold}
 use Rattle.task_steps.specs.worlds.Ready.{HasLooked}
-use Rattle.task_steps.specs.Acting.{IsPlacedAt, StationDid, StationDidAlone, told_in, told_of}
-use Rattle.task_steps.specs.declared.answers.Answered.{Answered}
-use Rattle.world_locks.proofs.Stations.{inode_same, its_pass}
+use Rattle.task_steps.specs.Acting.{IsPlacedAt, WorldInodeDid, WorldInodeDidAlone, told_in, told_of}
+use Rattle.task_steps.specs.declared.answers.StepResult.{StepResult}
+use Rattle.world_locks.proofs.WorldInodes.{inode_same, its_pass}
 use Rattle.world_locks.specs.Tagged.{DeedMet, IsPassAt}
 use Rattle.world_locks.specs.Pages.{AloneMet, IsPageDeed, MayByLook, PageMet, taken_in}
 use Rattle.world_locks.specs.declared.pages.TakenPage.{TakenPage}
 
 -- ---- the inode under its lock
 
-module _ (consts : WorldConsts) (i : ℕ) (st : StationValue) (is : IsStation consts i st) where
+module _ (consts : WorldConsts) (i : ℕ) (st : WorldInodeValue) (is : IsWorldInode consts i st) where
   -- after a look the deed may be done
   pub may_alone : (n : ℕ) (q : Passed Event) (d : Deed) → IsPassAt consts i n q
       → MayByLook consts i n q d
@@ -49,14 +49,16 @@ module _ (consts : WorldConsts) (i : ℕ) (st : StationValue) (is : IsStation co
   may_alone n q d at may looked =
       let number : q.number ≡ n + 1 = (its_pass consts i st is n q at).1 in
       let same = inode_same consts i st is in
-      let x : May st.cell.inode (past st.cell.list) d × IsBy (n + 1) d (past st.cell.list) =
-      subst (λ (y : Inode). May y (past st.cell.list) d × IsBy (n + 1) d (past st.cell.list)) same
-      (may (site_of st) st.cell.list is.site
+      let x : May st.cell.inode (newest_first st.cell.list) d
+      × IsBy (n + 1) d (newest_first st.cell.list) =
+      subst (λ (y : Inode). May y (newest_first st.cell.list) d
+      × IsBy (n + 1) d (newest_first st.cell.list)) same
+      (may (inode_consts_of st) st.cell.list is.inode_consts
       (subst (λ (y : Inode). HasLooked y (n + 1) q.seen st.cell.list q.mine) (sym same)
       (subst (λ (k : ℕ). HasLooked st.cell.inode k q.seen st.cell.list q.mine) number looked))) in
       record {
         may = x.0;
-        by = subst (λ (k : ℕ). IsBy k d (past st.cell.list)) (sym number) x.1;
+        by = subst (λ (k : ℕ). IsBy k d (newest_first st.cell.list)) (sym number) x.1;
       }
 
   module _ (cell2 : CellValue) (pass pass2 : Passed Event) (who : Who) (d : Deed)
@@ -78,22 +80,22 @@ module _ (consts : WorldConsts) (i : ℕ) (st : StationValue) (is : IsStation co
         → ((list : List Entry)
         → Leaves st.cell cell2 list list pass pass2 who d (told_by (λ x. piece_told x.0) r))
         → IfOk r (λ x. (list : List Entry)
-        → Some (piece_told x.0) ≡ outcome st.cell.inode list d (past st.cell.list))
+        → Some (piece_told x.0) ≡ outcome st.cell.inode list d (newest_first st.cell.list))
         → IfOk r (λ x. (c : Collection)
-        → collecting st.cell.inode (past st.cell.list) ≡ Some c
-        → x.1 ≡ piece_at (content (past st.cell.list)) c.pieces)
+        → collecting st.cell.inode (newest_first st.cell.list) ≡ Some c
+        → x.1 ≡ piece_at (content (newest_first st.cell.list)) c.pieces)
         → PageMet consts i pass pass2 who d (taken_in place r)
     page_is_met (Ok x) leaves told page = record {
-      station = st;
-      station2 = record st { cell = cell2 };
+      world_inode = st;
+      world_inode2 = record st { cell = cell2 };
       alone = alone (Some (piece_told x.0)) leaves;
       told = told;
       at = place_is;
       page = page;
     }
     page_is_met (Err e) leaves told page = record {
-      station = st;
-      station2 = record st { cell = cell2 };
+      world_inode = st;
+      world_inode2 = record st { cell = cell2 };
       alone = alone None leaves;
       told = tt;
       at = tt;
@@ -108,9 +110,9 @@ as_seen q = record { name = q.name; callers = 0; spare = 0; list = q.seen; numbe
 
 -- the deed left the measurement list as the pass had seen it
 did_alone : (pass pass2 : Passed Event) (listed : Passed Entry) (who : Who) (d : Deed)
-    (g g2 : HashState) (o : Option Told) (st st2 : StationValue)
-    → StationDidAlone st st2 pass pass2 who d g g2 o
-    → StationDid st st2 (as_seen listed) (as_seen listed) pass pass2 listed listed who d g g2 o
+    (g g2 : HashState) (o : Option Told) (st st2 : WorldInodeValue)
+    → WorldInodeDidAlone st st2 pass pass2 who d g g2 o
+    → WorldInodeDid st st2 (as_seen listed) (as_seen listed) pass pass2 listed listed who d g g2 o
 did_alone pass pass2 listed who d g g2 o st st2 did = record {
   looked = did.looked;
   leaves = did.leaves listed.seen;
@@ -126,16 +128,16 @@ did_alone pass pass2 listed who d g g2 o st st2 did = record {
 
 -- a deed that didn't consult the measurement list, from the view of a pass of that list
 pub alone_met : {E : Type 0} (consts : WorldConsts) (i : ℕ) (pass pass2 : Passed Event)
-    (listed : Passed Entry) (who : Who) (d : Deed) (g g2 : HashState) (st st2 : StationValue)
-    (r : Result (Option Answered) E) → IsStation consts i st
-    → StationDidAlone st st2 pass pass2 who d g g2 (told_in r)
+    (listed : Passed Entry) (who : Who) (d : Deed) (g g2 : HashState) (st st2 : WorldInodeValue)
+    (r : Result (Option StepResult) E) → IsWorldInode consts i st
+    → WorldInodeDidAlone st st2 pass pass2 who d g g2 (told_in r)
     → IfOk r (λ o. (list : List Entry)
-    → told_of o ≡ outcome st.cell.inode list d (past st.cell.list))
+    → told_of o ≡ outcome st.cell.inode list d (newest_first st.cell.list))
     → IfOk r (λ o. IsPlacedAt (length st.cell.list) o)
     → DeedMet consts i pass pass2 listed listed who d g g2 r
 alone_met consts i pass pass2 listed who d g g2 st st2 (Ok o) is did told place = record {
-  station = st;
-  station2 = st2;
+  world_inode = st;
+  world_inode2 = st2;
   book = as_seen listed;
   book2 = as_seen listed;
   is = is;
@@ -144,8 +146,8 @@ alone_met consts i pass pass2 listed who d g g2 st st2 (Ok o) is did told place 
   place = place;
 }
 alone_met consts i pass pass2 listed who d g g2 st st2 (Err e) is did told place = record {
-  station = st;
-  station2 = st2;
+  world_inode = st;
+  world_inode2 = st2;
   book = as_seen listed;
   book2 = as_seen listed;
   is = is;
@@ -156,10 +158,10 @@ alone_met consts i pass pass2 listed who d g g2 st st2 (Err e) is did told place
 
 -- a deed under the inode's lock alone, with what its task has hashed
 hashed_alone : (consts : WorldConsts) (i : ℕ) (pass pass2 : Passed Event) (who : Who) (d : Deed)
-    (g g2 : HashState) (o : Option Told) (st st2 : StationValue)
+    (g g2 : HashState) (o : Option Told) (st st2 : WorldInodeValue)
     → AloneMet consts i pass pass2 who d o st st2
     → HashesTold st.cell.inode st2.cell.list g g2 d o
-    → StationDidAlone st st2 pass pass2 who d g g2 o
+    → WorldInodeDidAlone st st2 pass pass2 who d g g2 o
 hashed_alone consts i pass pass2 who d g g2 o st st2 m hashes = record {
   looked = m.looked;
   leaves = m.leaves;
@@ -170,8 +172,8 @@ hashed_alone consts i pass pass2 who d g g2 o st st2 m hashes = record {
 
 page_hashes : (inode : Inode) (list list2 : List Event) (g g2 : HashState) (page : List ℕ)
     (who : Who) (p : Piece) (d : Deed) → IsPageDeed d → HashesBefore inode list g d
-    → ((c : Collection) → collecting inode (past list) ≡ Some c
-    → page ≡ piece_at (content (past list)) c.pieces)
+    → ((c : Collection) → collecting inode (newest_first list) ≡ Some c
+    → page ≡ piece_at (content (newest_first list)) c.pieces)
     → list2 ≡ list ++ made who d (Some (piece_told p))
     → ((c : Collection) → HasTakenIn g c
     → HasGathered p g2 (record c { bytes = c.bytes ++ page }))
@@ -186,7 +188,7 @@ page_hashes inode list list2 g g2 page who p d is before taken e h = absurd is
 pub page_met : {E : Type 0} (consts : WorldConsts) (i : ℕ) (pass pass2 : Passed Event)
     (listed : Passed Entry) (who : Who) (d : Deed) (g g2 : HashState) (t : TakenPage)
     → IsPageDeed d → (m : PageMet {E = E} consts i pass pass2 who d (Ok t))
-    → HashesBefore m.station.cell.inode m.station.cell.list g d
+    → HashesBefore m.world_inode.cell.inode m.world_inode.cell.list g d
     → ((c : Collection) → HasTakenIn g c
     → HasGathered t.piece g2 (record c { bytes = c.bytes ++ t.page }))
     → (u : Told) → u ≡ piece_told t.piece
@@ -196,15 +198,17 @@ page_met {E} consts i pass pass2 listed who d g g2 t is m before hash_state u e 
     subst (λ (x : Told). DeedMet {E = E} consts i pass pass2 listed listed who d g g2
     (Ok (Some (record { place = t.place; told = x; action = None })))) (sym e)
     (record {
-      station = m.station;
-      station2 = m.station2;
+      world_inode = m.world_inode;
+      world_inode2 = m.world_inode2;
       book = as_seen listed;
       book2 = as_seen listed;
       is = m.alone.is;
-      did = did_alone pass pass2 listed who d g g2 (Some (piece_told t.piece)) m.station m.station2
-          (hashed_alone consts i pass pass2 who d g g2 (Some (piece_told t.piece)) m.station
-          m.station2 m.alone
-          (page_hashes m.station.cell.inode m.station.cell.list m.station2.cell.list g g2 t.page
+      did = did_alone pass pass2 listed who d g g2 (Some (piece_told t.piece)) m.world_inode
+          m.world_inode2
+          (hashed_alone consts i pass pass2 who d g g2 (Some (piece_told t.piece)) m.world_inode
+          m.world_inode2 m.alone
+          (page_hashes m.world_inode.cell.inode m.world_inode.cell.list m.world_inode2.cell.list g
+          g2 t.page
           who t.piece d is before m.page (m.alone.leaves listed.seen).journal hash_state));
       told = m.told listed.seen;
       place = (m.at, refl);
@@ -216,13 +220,13 @@ pub page_failed : {E : Type 0} (consts : WorldConsts) (i : ℕ) (pass pass2 : Pa
     → PageMet {E = E} consts i pass pass2 who d (Err e)
     → DeedMet {E = E} consts i pass pass2 listed listed who d g g (Err e2)
 page_failed consts i pass pass2 listed who d g e e2 m = record {
-  station = m.station;
-  station2 = m.station2;
+  world_inode = m.world_inode;
+  world_inode2 = m.world_inode2;
   book = as_seen listed;
   book2 = as_seen listed;
   is = m.alone.is;
-  did = did_alone pass pass2 listed who d g g None m.station m.station2
-      (hashed_alone consts i pass pass2 who d g g None m.station m.station2 m.alone refl);
+  did = did_alone pass pass2 listed who d g g None m.world_inode m.world_inode2
+      (hashed_alone consts i pass pass2 who d g g None m.world_inode m.world_inode2 m.alone refl);
   told = tt;
   place = tt;
 }

@@ -5,7 +5,7 @@ use Rattle.std.proofs.lemmas.List.{append-nil}
 use Rattle.grow_list.specs.Shown.{Passed}
 use Rattle.inode_meta.specs.declared.step.Who.{Who}
 use Rattle.inode_events.specs.Asked.{entered, made}
-use Rattle.inode_events.specs.Past.{past}
+use Rattle.inode_events.specs.NewestFirst.{newest_first}
 use Rattle.inode_events.specs.Semaphores.{semaphore_says}
 use Rattle.inode_events.specs.declared.deed.Deed.{Deed}
 use Rattle.inode_events.specs.declared.told.Event.{Event}
@@ -15,7 +15,7 @@ use Rattle.policy_cell.specs.declared.cell.RuleEntry.{RuleEntry}
 use Rattle.world_close.specs.worlds.Tasks.{PassesValue}
 use Rattle.task_steps.proofs.about_worlds.Eventing.{adds_none}
 use Rattle.task_steps.specs.Acting.{IsPlacedAt, told_of}
-use Rattle.task_steps.specs.declared.answers.Answered.{Answered}
+use Rattle.task_steps.specs.declared.answers.StepResult.{StepResult}
 use Rattle.world_locks.specs.Tagged.{AppendMet, SignalMet, signalled_at}
 use Rattle.world_locks.specs.Met.{AppendsMet, SignalsMet, state_seen}
 
@@ -43,16 +43,17 @@ placed_signalled (Some k) n h = (h, refl)
 
 -- if memory suffices, the post or wait met the journal at the end of which its event was put
 pub signal_met : {E : Type 0} (pass pass2 : Passed Event) (who : Who) (d : Deed)
-    (journal : List Event) (place : Option ℕ) (o : Option Answered) → o ≡ signalled_at place
-    → option_map (λ (k : ℕ). told.Done) place ≡ semaphore_says (past journal) d
+    (journal : List Event) (place : Option ℕ) (o : Option StepResult) → o ≡ signalled_at place
+    → option_map (λ (k : ℕ). told.Done) place ≡ semaphore_says (newest_first journal) d
     → IfSome place (λ k. k ≡ length journal)
-    → pass2.seen ≡ journal ++ made who d (semaphore_says (past journal) d)
-    → pass2.mine ≡ pass.mine ++ entered (length journal) who d (semaphore_says (past journal) d)
+    → pass2.seen ≡ journal ++ made who d (semaphore_says (newest_first journal) d)
+    → pass2.mine ≡ pass.mine
+    ++ entered (length journal) who d (semaphore_says (newest_first journal) d)
     → (pass2.name ≡ pass.name) × (pass2.number ≡ pass.number)
     → SignalMet {E = E} pass pass2 who d (Ok o)
 signal_met {E} pass pass2 who d journal place o is says at seen mine same =
-    let said : told_of o ≡ semaphore_says (past journal) d =
-    ap (λ (x : Option Answered). told_of x) is ∙ told_signalled place ∙ says in
+    let said : told_of o ≡ semaphore_says (newest_first journal) d =
+    ap (λ (x : Option StepResult). told_of x) is ∙ told_signalled place ∙ says in
     record {
       journal = journal;
       seen = seen ∙ ap (λ (x : Option Told). journal ++ made who d x) (sym said);
@@ -64,14 +65,14 @@ signal_met {E} pass pass2 who d journal place o is says at seen mine same =
       };
       told = (
         said,
-        subst (λ (x : Option Answered). IsPlacedAt (length journal) x) (sym is)
+        subst (λ (x : Option StepResult). IsPlacedAt (length journal) x) (sym is)
             (placed_signalled place (length journal) at),
       );
     }
 
 -- the task's passes have seen the journal of the semaphores as the post or wait left it
 pub signals_met : {E : Type 0} (passes passes2 : PassesValue) (who : Who) (d : Deed)
-    (r : Result (Option Answered) E) → passes2 ≡ record passes { sems = passes2.sems }
+    (r : Result (Option StepResult) E) → passes2 ≡ record passes { sems = passes2.sems }
     → SignalMet passes.sems passes2.sems who d r → SignalsMet passes passes2 who d r
 signals_met passes passes2 who d r others m = record {
   old = record (state_seen passes) { signals = m.journal };
@@ -85,7 +86,7 @@ signals_met passes passes2 who d r others m = record {
 }
 
 -- the task's pass has seen the rules with the appended one
-pub appends_met : (passes passes2 : PassesValue) (entry : RuleEntry) (a : Answered)
+pub appends_met : (passes passes2 : PassesValue) (entry : RuleEntry) (a : StepResult)
     → passes2 ≡ record passes { rules = passes2.rules }
     → AppendMet passes.rules passes2.rules entry a → AppendsMet passes passes2 entry a
 appends_met passes passes2 entry a others m = record {

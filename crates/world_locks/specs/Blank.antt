@@ -20,7 +20,7 @@ abbrev pub no_consts : WorldConsts
 no_consts = record {
   settings = no_settings;
   boot = no_entry;
-  sites = [];
+  each_inode = [];
   supers = [];
   base = [];
   book = no_name;

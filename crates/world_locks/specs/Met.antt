@@ -5,7 +5,7 @@ use Rattle.grow_list.specs.Shown.{Passed}
 use Rattle.ima_templates.specs.declared.entry.Entry.{Entry}
 use Rattle.inode_meta.specs.declared.identity.Cred.{Cred}
 use Rattle.inode_meta.specs.declared.step.Who.{Who}
-use Rattle.inode_events.specs.Past.{past}
+use Rattle.inode_events.specs.NewestFirst.{newest_first}
 use Rattle.inode_events.specs.Semaphores.{semaphore_says}
 use Rattle.inode_events.specs.declared.deed.Deed.{Deed}
 use Rattle.inode_events.specs.declared.told.Event.{Event}
@@ -19,7 +19,7 @@ use Rattle.world_close.specs.worlds.declared.hash_state.HashState.{HashState}
 use Rattle.task_steps.specs.Acting.{EventIn, IsPlacedAt, IsSaid, told_in, told_of}
 use Rattle.task_steps.specs.Checking.{CheckIn}
 use Rattle.task_steps.specs.Sharing.{AppendsTo, SignalsOn}
-use Rattle.task_steps.specs.declared.answers.Answered.{Answered}
+use Rattle.task_steps.specs.declared.answers.StepResult.{StepResult}
 use Rattle.std.specs.Prelude.{None}
 
 abbrev pub seen_of : Passed Event → List Event
@@ -63,31 +63,31 @@ state_met passes i journal list added = record {
 
 -- a deed on the inode of this number met these lists
 pub record EventMet {E : Type 0} (consts : WorldConsts) (i : ℕ) (who : Who) (d : Deed)
-    (passes passes2 : PassesValue) (g g2 : HashState) (r : Result (Option Answered) E)
+    (passes passes2 : PassesValue) (g g2 : HashState) (r : Result (Option StepResult) E)
     : Type 0 where
   pub old : State
-  pub event : EventIn consts i (slice_get consts.sites i) who d old (state_seen passes2) passes
+  pub event : EventIn consts i (slice_get consts.each_inode i) who d old (state_seen passes2) passes
       passes2 g g2 (told_in r)
   pub told : IfOk r (λ o. IsSaid consts i d old o)
 
 -- a check of the inode of this number met these lists
 pub record CheckMet {E : Type 0} (consts : WorldConsts) (i : ℕ) (who : Who) (cred : Cred)
-    (asked : Checks) (passes passes2 : PassesValue) (r : Result (Option Answered) E)
+    (asked : Checks) (passes passes2 : PassesValue) (r : Result (Option StepResult) E)
     : Type 0 where
   pub old : State
-  pub check : (g : HashState) → CheckIn consts i (slice_get consts.sites i) who cred asked old
+  pub check : (g : HashState) → CheckIn consts i (slice_get consts.each_inode i) who cred asked old
       (state_seen passes2) passes passes2 g r
 
 -- a post or a wait met these lists
 pub record SignalsMet {E : Type 0} (passes passes2 : PassesValue) (who : Who) (d : Deed)
-    (r : Result (Option Answered) E) : Type 0 where
+    (r : Result (Option StepResult) E) : Type 0 where
   pub old : State
   pub signals : SignalsOn old (state_seen passes2) passes passes2 who d (told_in r)
-  pub told : IfOk r (λ o. (told_of o ≡ semaphore_says (past old.signals) d)
+  pub told : IfOk r (λ o. (told_of o ≡ semaphore_says (newest_first old.signals) d)
       × IsPlacedAt (length old.signals) o)
 
 -- an appended rule met these lists
-pub record AppendsMet (passes passes2 : PassesValue) (entry : RuleEntry) (a : Answered)
+pub record AppendsMet (passes passes2 : PassesValue) (entry : RuleEntry) (a : StepResult)
     : Type 0 where
   pub old : State
   pub appends : AppendsTo old (state_seen passes2) passes passes2 entry

@@ -18,7 +18,7 @@ use inode_cell::answers::piece_told;
 use std::alloc::AllocError as OutOfMemory;
 use std::sync::Wait;
 use task_mind::Doing;
-use task_steps::{Actor, Answered, Checks, gather};
+use task_steps::{Actor, Checks, StepResult, gather};
 use world_close::worlds::{HashState, Passes};
 
 impl<N: Name> Locks<N> {
@@ -32,14 +32,14 @@ impl<N: Name> Locks<N> {
         actor: &Actor<'_>,
         doing: Doing<'_>,
         hash_state: &mut HashState,
-    ) -> Result<Option<Answered>, OutOfMemory>
+    ) -> Result<Option<StepResult>, OutOfMemory>
         requires passes { ArePassesOf N.consts actor.now.who.task passes.old }
         requires ready { ReadyAt N.consts i passes.old.inodes actor.now.who.task hash_state.old
             actor.now.action actor.now.slot (deed_in doing) }
         ensures { EventMet N.consts i actor.now.who (deed_in doing.entry) passes.old passes.new
             hash_state.old hash_state.new result }
     {
-        if i as usize >= self.stations.len() {
+        if i as usize >= self.world_inodes.len() {
             return Ok(None);
         }
         match doing {
@@ -60,8 +60,8 @@ impl<N: Name> Locks<N> {
         actor: &Actor<'_>,
         doing: Doing<'_>,
         hash_state: &mut HashState,
-    ) -> Result<Option<Answered>, OutOfMemory>
-        requires below { i < length N.consts.sites }
+    ) -> Result<Option<StepResult>, OutOfMemory>
+        requires below { i < length N.consts.each_inode }
         requires passes { ArePassesOf N.consts actor.now.who.task passes.old }
         requires ready { ReadyAt N.consts i passes.old.inodes actor.now.who.task hash_state.old
             actor.now.action actor.now.slot (deed_in doing) }
@@ -70,9 +70,9 @@ impl<N: Name> Locks<N> {
             hash_state.old hash_state.new result }
     {
         let mut order = Order::new();
-        let mut station = self.take(rt, &mut order, i);
+        let mut world_inode = self.take(rt, &mut order, i);
         let mut list = self.take_book(rt, &mut order);
-        station.apply(
+        world_inode.apply(
             &mut passes.inodes[i as usize],
             &mut list,
             &mut passes.book,
@@ -91,8 +91,8 @@ impl<N: Name> Locks<N> {
         actor: &Actor<'_>,
         doing: Doing<'_>,
         hash_state: &mut HashState,
-    ) -> Result<Option<Answered>, OutOfMemory>
-        requires below { i < length N.consts.sites }
+    ) -> Result<Option<StepResult>, OutOfMemory>
+        requires below { i < length N.consts.each_inode }
         requires passes { ArePassesOf N.consts actor.now.who.task passes.old }
         requires ready { ReadyAt N.consts i passes.old.inodes actor.now.who.task hash_state.old
             actor.now.action actor.now.slot (deed_in doing) }
@@ -114,8 +114,8 @@ impl<N: Name> Locks<N> {
         actor: &Actor<'_>,
         doing: Doing<'_>,
         hash_state: &mut HashState,
-    ) -> Result<Option<Answered>, OutOfMemory>
-        requires below { i < length N.consts.sites }
+    ) -> Result<Option<StepResult>, OutOfMemory>
+        requires below { i < length N.consts.each_inode }
         requires passes { ArePassesOf N.consts actor.now.who.task passes.old }
         requires ready { ReadyAt N.consts i passes.old.inodes actor.now.who.task hash_state.old
             actor.now.action actor.now.slot (deed_in doing) }
@@ -129,7 +129,7 @@ impl<N: Name> Locks<N> {
             .take_page(&mut passes.inodes[i as usize], actor.who, doing)?;
         gather(hash_state, taken.piece, &taken.page);
         let told = piece_told(taken.piece);
-        Ok(Some(Answered {
+        Ok(Some(StepResult {
             place: taken.place,
             told,
             action: None,
@@ -145,7 +145,7 @@ impl<N: Name> Locks<N> {
         passes: &mut Passes,
         actor: &Actor<'_>,
         asked: Checks,
-    ) -> Result<Option<Answered>, OutOfMemory>
+    ) -> Result<Option<StepResult>, OutOfMemory>
         requires passes { ArePassesOf N.consts actor.now.who.task passes.old }
         requires ready { (g : AnyHashState) → ReadyAt N.consts i passes.old.inodes
             actor.now.who.task g actor.now.action actor.now.slot
@@ -153,7 +153,7 @@ impl<N: Name> Locks<N> {
         ensures { CheckMet N.consts i actor.now.who actor.now.cred.now asked passes.old passes.new
             result }
     {
-        if i as usize >= self.stations.len() {
+        if i as usize >= self.world_inodes.len() {
             return Ok(None);
         }
         let mut order = Order::new();

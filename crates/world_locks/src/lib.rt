@@ -14,8 +14,8 @@ mod name;
 mod order;
 mod pages;
 mod sharing;
-mod station;
 mod tagged;
+mod world_inode;
 
 pub use locks::Locks;
 pub use name::Name;

@@ -2,27 +2,27 @@
 
 ghost use Rattle.std.specs.Prelude.{◌≡◌, ◌<◌, IfOk, length};
 ghost use Rattle.std.specs.Sync.Mutex.{mutex_guard_value};
-ghost use Rattle.world_close.specs.worlds.World.{IsStation};
-ghost use Rattle.world_close.specs.Closed.{AreStations};
+ghost use Rattle.world_close.specs.worlds.World.{IsWorldInode};
+ghost use Rattle.world_close.specs.Closed.{AreWorldInodes};
 ghost use Rattle.world_close.specs.Parts.{KeepConsts, consts_of_parts};
 
 use crate::name::Name;
 use crate::order::Order;
-use crate::station::TaggedStation;
 use crate::tagged::{TaggedBook, TaggedRules, TaggedSemaphores};
+use crate::world_inode::TaggedWorldInode;
 use inode_events::Settings;
 use inode_meta::Mode;
 use policy_rules::Super;
 use std::alloc::{AllocError as OutOfMemory, Global};
 use std::sync::{Mutex, MutexGuard, Wait};
 use world_close::Parts;
-use world_close::worlds::Station;
+use world_close::worlds::WorldInode;
 
 /// The lists of a world, with a lock for each inode, and one lock each for the measurement list,
 /// the semaphores and the rules. They belong to the constants that `N` names.
 #[derive(Drop)]
 pub struct Locks<N: Name> {
-    pub(crate) stations: Vec<Mutex<TaggedStation<N>>>,
+    pub(crate) world_inodes: Vec<Mutex<TaggedWorldInode<N>>>,
     book: Mutex<TaggedBook<N>>,
     sems: Mutex<TaggedSemaphores<N>>,
     rules: Mutex<TaggedRules<N>>,
@@ -30,34 +30,37 @@ pub struct Locks<N: Name> {
     settings: Settings,
     tasks: u32,
     pub(crate) alloc: Global,
-    ghost count: { length stations.items ≡ length N.consts.sites },
+    ghost count: { length world_inodes.items ≡ length N.consts.each_inode },
     ghost supers_are: { supers.items ≡ N.consts.supers },
     ghost settings_are: { settings ≡ N.consts.settings },
     ghost tasks_are: { tasks ≡ N.consts.tasks },
 }
 
 // Puts the inode of this place under a lock.
-fn lock_at<N: Name>(place: usize, station: Station) -> Result<Mutex<TaggedStation<N>>, OutOfMemory>
-    requires { IsStation N.consts place station }
+fn lock_at<N: Name>(
+    place: usize,
+    world_inode: WorldInode,
+) -> Result<Mutex<TaggedWorldInode<N>>, OutOfMemory>
+    requires { IsWorldInode N.consts place world_inode }
 {
     let Ok(number) = u32::try_from(place) else {
         return Err(OutOfMemory);
     };
-    Ok(Mutex::new(TaggedStation::<N>::new(number, station)))
+    Ok(Mutex::new(TaggedWorldInode::<N>::new(number, world_inode)))
 }
 
 // Puts each inode under a lock.
 fn lock_each<N: Name>(
     alloc: Global,
-    stations: Vec<Station>,
-) -> Result<Vec<Mutex<TaggedStation<N>>>, OutOfMemory>
-    requires { AreStations N.consts stations.items }
-    ensures { IfOk result (λ locked. length locked.items ≡ length N.consts.sites) }
+    world_inodes: Vec<WorldInode>,
+) -> Result<Vec<Mutex<TaggedWorldInode<N>>>, OutOfMemory>
+    requires { AreWorldInodes N.consts world_inodes.items }
+    ensures { IfOk result (λ locked. length locked.items ≡ length N.consts.each_inode) }
 {
-    let mut left = stations;
+    let mut left = world_inodes;
     let mut locked = Vec::new(alloc);
-    while let Some(station) = left.pop() {
-        let mutex = lock_at::<N>(left.len(), station)?;
+    while let Some(world_inode) = left.pop() {
+        let mutex = lock_at::<N>(left.len(), world_inode)?;
         locked.push(mutex)?;
     }
     locked.reverse();
@@ -65,31 +68,34 @@ fn lock_each<N: Name>(
 }
 
 // Takes the inode of this place out of its lock.
-fn unlock_at<N: Name>(place: usize, mutex: Mutex<TaggedStation<N>>) -> Result<Station, OutOfMemory>
-    ensures { IfOk result (λ station. IsStation N.consts place station) }
+fn unlock_at<N: Name>(
+    place: usize,
+    mutex: Mutex<TaggedWorldInode<N>>,
+) -> Result<WorldInode, OutOfMemory>
+    ensures { IfOk result (λ world_inode. IsWorldInode N.consts place world_inode) }
 {
-    let (number, station) = mutex.into_inner().open();
+    let (number, world_inode) = mutex.into_inner().open();
     // The inode is in its place, but the type of a lock doesn't say so.
     if number as usize != place {
         return Err(OutOfMemory);
     }
-    Ok(station)
+    Ok(world_inode)
 }
 
 // Takes the inodes out of their locks, in order.
 fn unlock_each<N: Name>(
     alloc: Global,
-    locked: Vec<Mutex<TaggedStation<N>>>,
-) -> Result<Vec<Station>, OutOfMemory>
-    requires { length locked.items ≡ length N.consts.sites }
-    ensures { IfOk result (λ stations. AreStations N.consts stations.items) }
+    locked: Vec<Mutex<TaggedWorldInode<N>>>,
+) -> Result<Vec<WorldInode>, OutOfMemory>
+    requires { length locked.items ≡ length N.consts.each_inode }
+    ensures { IfOk result (λ world_inodes. AreWorldInodes N.consts world_inodes.items) }
 {
-    let mut stations = Vec::new(alloc);
+    let mut world_inodes = Vec::new(alloc);
     for mutex in locked {
-        let station = unlock_at(stations.len(), mutex)?;
-        stations.push(station)?;
+        let world_inode = unlock_at(world_inodes.len(), mutex)?;
+        world_inodes.push(world_inode)?;
     }
-    Ok(stations)
+    Ok(world_inodes)
 }
 
 impl<N: Name> Locks<N> {
@@ -98,7 +104,7 @@ impl<N: Name> Locks<N> {
         requires { KeepConsts N.consts parts }
     {
         let Parts {
-            stations,
+            world_inodes,
             book,
             sems,
             rules,
@@ -108,9 +114,9 @@ impl<N: Name> Locks<N> {
             tasks,
             alloc,
         } = parts;
-        let stations = lock_each::<N>(alloc, stations)?;
+        let world_inodes = lock_each::<N>(alloc, world_inodes)?;
         Ok(Locks {
-            stations,
+            world_inodes,
             book: Mutex::new(TaggedBook::new(book)),
             sems: Mutex::new(TaggedSemaphores::new(sems)),
             rules: Mutex::new(TaggedRules::new(rules, spares)),
@@ -127,7 +133,7 @@ impl<N: Name> Locks<N> {
         ensures consts { IfOk result (λ parts. consts_of_parts parts ≡ N.consts) }
     {
         let Locks {
-            stations,
+            world_inodes,
             book,
             sems,
             rules,
@@ -136,12 +142,12 @@ impl<N: Name> Locks<N> {
             tasks,
             alloc,
         } = self;
-        let stations = unlock_each(alloc, stations)?;
+        let world_inodes = unlock_each(alloc, world_inodes)?;
         let book = book.into_inner().open();
         let sems = sems.into_inner().open();
         let (rules, spares) = rules.into_inner().open();
         Ok(Parts {
-            stations,
+            world_inodes,
             book,
             sems,
             rules,
@@ -166,17 +172,17 @@ impl<N: Name> Locks<N> {
         rt: &R,
         order: &mut Order,
         inode: u32,
-    ) -> MutexGuard<'a, TaggedStation<N>>
-        requires below { inode < length N.consts.sites }
+    ) -> MutexGuard<'a, TaggedWorldInode<N>>
+        requires below { inode < length N.consts.each_inode }
         requires order { order.old.taken ≡ 0 }
         ensures number { (mutex_guard_value result).number ≡ inode }
         ensures order { order.new.taken ≡ 1 }
     {
         order.taken = 1;
         for _ in rt.forever() {
-            let station = self.stations[inode as usize].lock(rt);
-            if station.number() == inode {
-                return station;
+            let world_inode = self.world_inodes[inode as usize].lock(rt);
+            if world_inode.number() == inode {
+                return world_inode;
             }
         }
         unreachable!()
@@ -224,7 +230,7 @@ impl<N: Name> Locks<N> {
 
     /// Takes the lock of the inode of this number, calls `f` once, and releases the lock.
     pub fn hold<R: Wait, F: FnOnce()>(&self, rt: &R, inode: u32, f: F)
-        requires below { inode < length N.consts.sites }
+        requires below { inode < length N.consts.each_inode }
         requires call { F.IsAlwaysCallable f }
     {
         let mut order = Order::new();

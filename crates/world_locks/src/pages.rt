@@ -8,7 +8,7 @@ ghost use Rattle.inode_cell.specs.Acts.{Acts, MayBy, Stays};
 ghost use Rattle.inode_cell.specs.answers.Answers.{piece_told};
 ghost use Rattle.inode_events.specs.Asked.{outcome};
 ghost use Rattle.inode_events.specs.Integrity.{Collection as AnyCollection, collecting};
-ghost use Rattle.inode_events.specs.Past.{past};
+ghost use Rattle.inode_events.specs.NewestFirst.{newest_first};
 ghost use Rattle.inode_events.specs.State.{content};
 ghost use Rattle.inode_events.specs.pages.Content.{piece_at};
 ghost use Rattle.task_steps.specs.Leaving.{Leaves, told_by};
@@ -62,8 +62,8 @@ fn next_page(
     ensures acts { IfOk result (λ r. (list : List AnyEntry) → Acts cell.old cell.new list list
         pass.old pass.new who (deed_in doing.entry) (Some (piece_told r.0))) }
     ensures page { IfOk result (λ r. (c : AnyCollection)
-        → collecting cell.old.inode (past cell.old.list) ≡ Some c
-        → r.1 ≡ piece_at (content (past cell.old.list)) c.pieces) }
+        → collecting cell.old.inode (newest_first cell.old.list) ≡ Some c
+        → r.1 ≡ piece_at (content (newest_first cell.old.list)) c.pieces) }
     ensures err { OnErr result (Stays cell.old cell.new pass.old pass.new) }
 {
     match doing {
@@ -90,10 +90,10 @@ pub(crate) fn take_page(
     ensures leaves { (list : List AnyEntry) → Leaves cell.old cell.new list list pass.old pass.new
         who (deed_in doing.entry) (told_by (λ r. piece_told r.0) result) }
     ensures told { IfOk result (λ r. (list : List AnyEntry) → Some (piece_told r.0)
-        ≡ outcome cell.old.inode list (deed_in doing.entry) (past cell.old.list)) }
+        ≡ outcome cell.old.inode list (deed_in doing.entry) (newest_first cell.old.list)) }
     ensures page { IfOk result (λ r. (c : AnyCollection)
-        → collecting cell.old.inode (past cell.old.list) ≡ Some c
-        → r.1 ≡ piece_at (content (past cell.old.list)) c.pieces) }
+        → collecting cell.old.inode (newest_first cell.old.list) ≡ Some c
+        → r.1 ≡ piece_at (content (newest_first cell.old.list)) c.pieces) }
 {
     cell.look(pass);
     next_page(cell, pass, who, doing)

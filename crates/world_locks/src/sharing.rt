@@ -12,7 +12,7 @@ use inode_meta::Who;
 use policy_rules::Rule;
 use std::alloc::AllocError as OutOfMemory;
 use std::sync::Wait;
-use task_steps::Answered;
+use task_steps::StepResult;
 use world_close::worlds::Passes;
 
 impl<N: Name> Locks<N> {
@@ -23,7 +23,7 @@ impl<N: Name> Locks<N> {
         passes: &mut Passes,
         who: Who,
         deed: Deed,
-    ) -> Result<Option<Answered>, OutOfMemory>
+    ) -> Result<Option<StepResult>, OutOfMemory>
         requires { ArePassesOf N.consts who.task passes.old }
         ensures { SignalsMet passes.old passes.new who deed result }
     {
@@ -39,7 +39,7 @@ impl<N: Name> Locks<N> {
         passes: &mut Passes,
         who: Who,
         rule: &Rule,
-    ) -> Result<Answered, OutOfMemory>
+    ) -> Result<StepResult, OutOfMemory>
         requires { ArePassesOf N.consts who.task passes.old }
         ensures appends { IfOk result (λ a. AppendsMet passes.old passes.new
             (record { who = who; rule = rule.now }) a) }

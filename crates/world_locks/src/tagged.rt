@@ -14,7 +14,7 @@ use policy_cell::{PolicyCell, RuleEntry};
 use policy_rules::Rule;
 use std::alloc::{AllocError as OutOfMemory, Global};
 use std::marker::{Model, PhantomData};
-use task_steps::Answered;
+use task_steps::StepResult;
 use world_close::semaphores::SemaphoreCell;
 
 /// The measurement list, with the invariant that it belongs to the constants that `N` names.
@@ -104,7 +104,7 @@ impl<N: Name> TaggedSemaphores<N> {
         pass: &mut Pass<Event>,
         who: Who,
         deed: Deed,
-    ) -> Result<Option<Answered>, OutOfMemory>
+    ) -> Result<Option<StepResult>, OutOfMemory>
         requires name { pass.old.name ≡ N.consts.signals }
         requires number { pass.old.number ≡ who.task + 1 }
         ensures { SignalMet pass.old pass.new who deed result }
@@ -115,11 +115,11 @@ impl<N: Name> TaggedSemaphores<N> {
 }
 
 // The answer to a post or a wait whose event is at this place. `None` means that it is blocked.
-fn signalled(place: Option<u64>) -> Option<Answered>
+fn signalled(place: Option<u64>) -> Option<StepResult>
     ensures { result ≡ signalled_at place }
 {
     match place {
-        Some(place) => Some(Answered {
+        Some(place) => Some(StepResult {
             place,
             told: Told::Done,
             action: None,
@@ -181,7 +181,7 @@ impl<N: Name> TaggedRules<N> {
         pass: &mut Pass<RuleEntry>,
         who: Who,
         rule: &Rule,
-    ) -> Result<Answered, OutOfMemory>
+    ) -> Result<StepResult, OutOfMemory>
         requires name { pass.old.name ≡ N.consts.rules }
         requires number { pass.old.number ≡ who.task }
         ensures met { IfOk result (λ a. AppendMet pass.old pass.new
@@ -190,7 +190,7 @@ impl<N: Name> TaggedRules<N> {
     {
         let place = self.rules.appended();
         self.rules.append(alloc, pass, who, rule)?;
-        Ok(Answered {
+        Ok(StepResult {
             place,
             told: Told::Done,
             action: None,

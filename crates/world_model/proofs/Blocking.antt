@@ -22,7 +22,7 @@ use Rattle.world_model.specs.laws_of_runs.Checks.{SeesMore, seen_by}
 use Rattle.run_model.specs.History.{Answer, call_at, step_at, who_at, who_in}
 use Rattle.run_model.specs.Scene.{Program}
 use Rattle.run_model.specs.Turns.{State}
-use Rattle.world_model.specs.WorldConsts.{Site, WorldConsts, inode_in, mode_in, scene_of}
+use Rattle.world_model.specs.WorldConsts.{InodeConsts, WorldConsts, inode_in, mode_in, scene_of}
 use Rattle.world_model.specs.Tasks.{ArePassesOf, HashesBefore, HashesFor, HasPlayed, PassesValue, Tasked}
 use Rattle.world_model.specs.declared.hash_state.HashState.{HashState}
 use Rattle.world_model.specs.Events.{EventOn}
@@ -50,9 +50,9 @@ record Looked (j : ℕ) (old : List (Passed Event)) (q : Passed Event) : Type 0 
   mine : q.mine ≡ before.mine
   placed : All (λ x. x.0 < length before.seen) before.mine → All (λ x. x.0 < length q.seen) q.mine
 
-module _ (consts : WorldConsts) (t : Tasked) (h : List Answer) (i : ℕ) (s : Site) (d : Deed)
+module _ (consts : WorldConsts) (t : Tasked) (h : List Answer) (i : ℕ) (s : InodeConsts) (d : Deed)
     (old new : State) (passes : PassesValue) (g : HashState) (x : HasPlayed consts t h)
-    (there : slice_get consts.sites i ≡ Some s)
+    (there : slice_get consts.each_inode i ≡ Some s)
     (e : EventOn consts i s (who_at t.number t.mind.program t.mind.thought.mind) d old new
     t.passes passes t.hash_state g None) where
   within : i < length t.passes.inodes
@@ -139,12 +139,12 @@ module _ (consts : WorldConsts) (t : Tasked) (h : List Answer) (i : ℕ) (s : Si
       (slot_in (due_at p t.mind.thought.mind)) d =
       ready_by_look consts t h i s e.pass e.journal d x there e.pass_at looked on in
       let same : s ≡ s2 =
-      same_Some s s2 (sym there ∙ ap (slice_get consts.sites) (sym f.0) ∙ a) in
+      same_Some s s2 (sym there ∙ ap (slice_get consts.each_inode) (sym f.0) ∙ a) in
       let pass : e.pass2 ≡ q =
       same_Some e.pass2 q (sym (ap (λ (xs : List (Passed Event)). slice_get xs i) e.inodes
       ∙ get_set t.passes.inodes i e.pass2 e.pass e.pass_at)
       ∙ ap (slice_get passes.inodes) (sym f.0) ∙ b) in
-      subst (λ (z : Site). HashesBefore (inode_in consts z) q.seen g y) same
+      subst (λ (z : InodeConsts). HashesBefore (inode_in consts z) q.seen g y) same
       (subst (λ (z : Passed Event). HashesBefore (inode_in consts s) z.seen g y) pass
       (subst (λ (xs : List Event). HashesBefore (inode_in consts s) xs g y) (sym seen_is)
       (subst (λ (z : HashState). HashesBefore (inode_in consts s) e.journal z y) (sym e.hashes)

@@ -11,7 +11,7 @@ use Rattle.grow_list.specs.Shown.{Passed}
 use Rattle.call_steps.specs.templates.declared.entry.Entry.{Entry}
 use Rattle.inode_meta.specs.declared.step.Who.{Who}
 use Rattle.inode_events.specs.Asked.{asked, list_after, made, outcome}
-use Rattle.inode_events.specs.Past.{past}
+use Rattle.inode_events.specs.NewestFirst.{newest_first}
 use Rattle.inode_events.specs.State.{metadata}
 use Rattle.inode_events.specs.declared.deed.Deed.{Deed}
 use Rattle.inode_events.specs.declared.deed.Deed.TheVariants as deed
@@ -32,7 +32,7 @@ use Rattle.world_model.specs.laws_of_runs.Checks.{IsPlainStep, Longer, SeesMore,
 use Rattle.run_model.specs.History.{Answer, Thought, event, event_in, plain_answer, rule_in, signal_in, step_at, who_at}
 use Rattle.run_model.specs.Scene.{Program, decided, rules_with}
 use Rattle.run_model.specs.Turns.{State}
-use Rattle.world_model.specs.WorldConsts.{Site, WorldConsts, inode_in, mode_in, scene_of, station_of, super_at}
+use Rattle.world_model.specs.WorldConsts.{InodeConsts, WorldConsts, inode_in, mode_in, scene_of, script_file_of, super_at}
 use Rattle.world_model.specs.Tasks.{HashesFor, PassesValue, Tasked}
 use Rattle.world_model.specs.declared.hash_state.HashState.{HashState}
 use Rattle.world_model.specs.Due.{HashesAfter, HashesAfterStep}
@@ -73,7 +73,7 @@ placed_on seen list mine e a b =
 
 -- ---- the passes of journals
 
-module _ (consts : WorldConsts) (i : ℕ) (s : Site) (who : Who) (d : Deed) (old new : State)
+module _ (consts : WorldConsts) (i : ℕ) (s : InodeConsts) (who : Who) (d : Deed) (old new : State)
     (passes passes2 : PassesValue) (g g2 : HashState) (told : Told)
     (e : EventOn consts i s who d old new passes passes2 g g2 (Some told)) where
   within : i < length passes.inodes
@@ -136,31 +136,31 @@ module _ (consts : WorldConsts) (i : ℕ) (s : Site) (who : Who) (d : Deed) (old
   journal_is = get_or_from_slice_get old.journals i e.journal [] e.journal_at
 
   list_is : passes2.book.seen
-      ≡ list_after old.list (asked (inode_in consts s) d (past e.journal)) (Some told)
+      ≡ list_after old.list (asked (inode_in consts s) d (newest_first e.journal)) (Some told)
   list_is =
       e.book_seen ∙ ap (λ (z : State). z.list) e.state
-      ∙ ap (λ (xs : List Event). list_after old.list (asked (inode_in consts s) d (past xs))
+      ∙ ap (λ (xs : List Event). list_after old.list (asked (inode_in consts s) d (newest_first xs))
       (Some told)) journal_is
 
   -- the places of the measurement list in the task's answers increase
-  rises_on : Some told ≡ outcome (inode_in consts s) old.list d (past e.journal)
+  rises_on : Some told ≡ outcome (inode_in consts s) old.list d (newest_first e.journal)
       → (steps : List Made) → RisesWithin steps passes.book.seen
       → RisesWithin (made_of i (length e.journal) who d told ∷ steps) passes2.book.seen
   rises_on tells steps r =
       subst (λ (xs : List Entry).
       RisesWithin (made_of i (length e.journal) who d told ∷ steps) xs) (sym list_is)
-      (rises_event steps passes.book.seen old.list (inode_in consts s) (past e.journal) i
+      (rises_event steps passes.book.seen old.list (inode_in consts s) (newest_first e.journal) i
       (length e.journal) who d told e.book_before r (sym tells))
 
   -- what the task has hashed suits the step's outcome
-  hashes_on : slice_get consts.sites i ≡ Some s
+  hashes_on : slice_get consts.each_inode i ≡ Some s
       → HashesAfterStep consts passes2.inodes g2 (Does i d) told
   hashes_on there s2 q x y =
       let same : s ≡ s2 = same_Some s s2 (sym there ∙ x) in
       let pass : e.pass2 ≡ q =
       same_Some e.pass2 q (sym (ap (λ (xs : List (Passed Event)). slice_get xs i) e.inodes
       ∙ get_set passes.inodes i e.pass2 e.pass e.pass_at) ∙ y) in
-      subst (λ (z : Site). HashesAfter (inode_in consts z) q.seen g2 d told) same
+      subst (λ (z : InodeConsts). HashesAfter (inode_in consts z) q.seen g2 d told) same
       (subst (λ (z : Passed Event). HashesAfter (inode_in consts s) z.seen g2 d told) pass
       (subst (λ (xs : List Event). HashesAfter (inode_in consts s) xs g2 d told) (sym e.seen)
       e.hashes))
@@ -174,11 +174,11 @@ module _ (consts : WorldConsts) (i : ℕ) (s : Site) (who : Who) (d : Deed) (old
       (subst (λ (xs : List Event). IsPrefix e.journal xs) (sym e.seen)
       (prefix_append e.journal (made who d (Some told)))))
 
-  within_scene : (programs : List Program) → slice_get consts.sites i ≡ Some s
-      → i < length (scene_of consts programs).stations
+  within_scene : (programs : List Program) → slice_get consts.each_inode i ≡ Some s
+      → i < length (scene_of consts programs).script_files
   within_scene programs there =
-      let l : i < length consts.sites = slice_get_within consts.sites i s there in
-      omega (arith, length-map consts.sites (station_of consts))
+      let l : i < length consts.each_inode = slice_get_within consts.each_inode i s there in
+      omega (arith, length-map consts.each_inode (script_file_of consts))
 
 pub get_map : {A B : Type 0} (f : A → B) (xs : List A) (k : ℕ) (x : A) → slice_get xs k ≡ Some x
     → slice_get (map f xs) k ≡ Some (f x)
@@ -188,13 +188,13 @@ get_map f (y ∷ ys) (suc k) x h = get_map f ys k x h
 
 -- ---- an event with the outcome told to the task
 
-event_stepped : (consts : WorldConsts) (t : Tasked) (i : ℕ) (s : Site) (d : Deed)
+event_stepped : (consts : WorldConsts) (t : Tasked) (i : ℕ) (s : InodeConsts) (d : Deed)
     (told : Told) (old new : State) (passes : PassesValue) (g : HashState) (mind : TaskValue)
     → step_at t.mind.program t.mind.thought.mind ≡ Some (Does i d)
-    → slice_get consts.sites i ≡ Some s
+    → slice_get consts.each_inode i ≡ Some s
     → (e : EventOn consts i s (who_at t.number t.mind.program t.mind.thought.mind) d old new
     t.passes passes t.hash_state g (Some told))
-    → Some told ≡ outcome (inode_in consts s) old.list d (past e.journal)
+    → Some told ≡ outcome (inode_in consts s) old.list d (newest_first e.journal)
     → HasHeard consts t (plain_answer (length e.journal) told) mind
     → HasStepped consts t (task_after t mind passes g) (plain_answer (length e.journal) told)
 event_stepped consts t i s d told old new passes g mind st there e tells hd =
@@ -242,19 +242,19 @@ event_is_played consts t h i s d told old new passes g mind x st there e tells h
 
 -- ---- a check
 
-check_stepped : (consts : WorldConsts) (t : Tasked) (i : ℕ) (s : Site) (file : ℕ)
+check_stepped : (consts : WorldConsts) (t : Tasked) (i : ℕ) (s : InodeConsts) (file : ℕ)
     (func : Func) (mask : ℕ) (action : Action) (rules : ℕ) (told : Told) (old new : State)
     (passes : PassesValue) (g : HashState) (mind : TaskValue)
     → step_at t.mind.program t.mind.thought.mind ≡ Some (Checks i file func mask)
-    → slice_get consts.sites i ≡ Some s
+    → slice_get consts.each_inode i ≡ Some s
     → (e : EventOn consts i s (who_at t.number t.mind.program t.mind.thought.mind)
     (deed.Check file func action rules) old new t.passes passes t.hash_state g (Some told))
     → Some told ≡ outcome (inode_in consts s) old.list (deed.Check file func action rules)
-    (past e.journal)
+    (newest_first e.journal)
     → passes.rules.seen ≡ old.added
     → rules ≡ length (rules_with (scene_of consts []) old.added)
     → action ≡ decided (rules_with (scene_of consts []) old.added) t.mind.program.cred
-    (super_at consts s.place) (metadata (past e.journal)) func mask
+    (super_at consts s.place) (metadata (newest_first e.journal)) func mask
     → HasHeard consts t (check_answer (length e.journal) told action rules) mind
     → HasStepped consts t (task_after t mind passes g)
     (check_answer (length e.journal) told action rules)
@@ -284,16 +284,16 @@ check_stepped consts t i s file func mask action rules told old new passes g min
           func mask (sees_on consts i s who d old new t.passes passes t.hash_state g told e) fit
           (ap (step_at p) same ∙ st)
           (record {
-            station = station_of consts s;
+            script_file = script_file_of consts s;
             before = e.journal;
-            at = get_map (station_of consts) consts.sites i s there;
+            at = get_map (script_file_of consts) consts.each_inode i s there;
             journal = stands_on consts i s who d old new t.passes passes t.hash_state g told e;
             place = refl;
             rules = count ∙ ap (λ (xs : List RuleEntry).
                 length (rules_with (scene_of consts []) xs)) (sym added);
             action = is ∙ ap (λ (xs : List RuleEntry).
                 decided (rules_with (scene_of consts []) xs) p.cred (super_at consts s.place)
-                (metadata (past e.journal)) func mask) (sym added);
+                (metadata (newest_first e.journal)) func mask) (sym added);
           });
       rises = λ steps r. subst (λ (o : Option Step). RisesWithin (logged who o a ++ steps)
           passes.book.seen) (sym st)

@@ -69,8 +69,8 @@ module _ (consts : WorldConsts) (t : Tasked) (h : List Answer) (s : State) (pass
   seen_more : (k : ℕ) (q : Passed Event) (e : Looked k q) → IsPrefix e.before.seen q.seen
   seen_more k q e =
       let lt : k < length t.passes.inodes = slice_get_within t.passes.inodes k e.before e.at in
-      let le : length t.passes.inodes ≡ length consts.sites = x.passes.even in
-      let y = get_within consts.sites k (omega arith) in
+      let le : length t.passes.inodes ≡ length consts.each_inode = x.passes.even in
+      let y = get_within consts.each_inode k (omega arith) in
       subst (λ (xs : List Event). IsPrefix e.before.seen xs) (sym e.seen)
       (e.looked y.0 y.1).before
 
@@ -175,8 +175,8 @@ module _ (consts : WorldConsts) (t : Tasked) (h : List Answer) (s : State) (pass
       → (q : Passed Event) × ((slice_get passes.inodes k ≡ Some q) × (q.seen ≡ journal))
   journal_seen k journal g =
       let lt : k < length s.journals = slice_get_within s.journals k journal g in
-      let le : length s.journals ≡ length consts.sites = l.journals in
-      let more : length passes.inodes ≡ length consts.sites = y.passes.even in
+      let le : length s.journals ≡ length consts.each_inode = l.journals in
+      let more : length passes.inodes ≡ length consts.each_inode = y.passes.even in
       let z = get_within passes.inodes k (omega arith) in
       let e : here k z.0 = l.inodes k z.0 z.1 in
       (z.0, (z.1, e.seen ∙ same_Some e.journal journal (sym e.journal_at ∙ g)))
@@ -187,10 +187,10 @@ module _ (consts : WorldConsts) (t : Tasked) (h : List Answer) (s : State) (pass
       let z = journal_seen k journal g in
       let e : here k z.0 = l.inodes k z.0 z.1.0 in
       let lt : k < length s.journals = slice_get_within s.journals k journal g in
-      let le : length s.journals ≡ length consts.sites = l.journals in
-      let site = get_within consts.sites k (omega arith) in
+      let le : length s.journals ≡ length consts.each_inode = l.journals in
+      let inode_consts = get_within consts.each_inode k (omega arith) in
       ap (events_of t.number) (same_Some journal e.journal (sym g ∙ e.journal_at))
-      ∙ (e.looked site.0 site.1).own ∙ sym e.mine ∙ y.events k z.0 z.1.0
+      ∙ (e.looked inode_consts.0 inode_consts.1).own ∙ sym e.mine ∙ y.events k z.0 z.1.0
 
   sees_all : SeesMore (seen_by passes.inodes passes.rules) (seen_in s)
   sees_all = record {

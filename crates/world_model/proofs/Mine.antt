@@ -5,7 +5,7 @@ use Rattle.std.proofs.lemmas.Bool.{eqb-true}
 use Rattle.inode_events.specs.Checks.{no_action}
 use Rattle.inode_events.specs.Inode.{Inode}
 use Rattle.inode_events.specs.Legal.{EachFollows}
-use Rattle.inode_events.specs.Past.{past}
+use Rattle.inode_events.specs.NewestFirst.{newest_first}
 use Rattle.inode_events.specs.Stage.{Stage, stage_in}
 use Rattle.inode_events.specs.declared.deed.Deed.TheVariants as deed
 use Rattle.inode_events.specs.declared.deed.How.{How}
@@ -100,25 +100,25 @@ module _ (inode : Inode) (n : ℕ) (p : List Event) where
 -- the journal has the task's files in the states that its history gives them
 pub files_fit : (inode : Inode) (n : ℕ) (p : Program) (h : List Answer) (i : ℕ)
     (journal : List Event) → ((k : ℕ) (c : Call) → slice_get p.calls k ≡ Some c → IsFit c)
-    → EachFollows inode (past journal)
+    → EachFollows inode (newest_first journal)
     → events_of n journal ≡ own inode.settings.mode n p i h
-    → Fits p (thought inode.settings.mode p h).mind i (Lives inode (n + 1) (past journal))
-    (Hows inode (n + 1) (past journal))
+    → Fits p (thought inode.settings.mode p h).mind i (Lives inode (n + 1) (newest_first journal))
+    (Hows inode (n + 1) (newest_first journal))
 files_fit inode n p h i journal fit legal owns =
     subst (λ (xs : List (ℕ × Event)). Fits p (thought inode.settings.mode p h).mind i
     (λ f. stage_in inode f xs) (λ f. how_in f xs))
     (sym (own_bridge (n + 1) journal ∙ ap reverse owns))
     (fits_history inode n p i fit h (subst AreGood (own_bridge (n + 1) journal ∙ ap reverse owns)
-    (own_good inode (n + 1) (past journal) legal)))
+    (own_good inode (n + 1) (newest_first journal) legal)))
 
 pub next_is_by : (inode : Inode) (n : ℕ) (p : Program) (h : List Answer) (i : ℕ)
     (journal : List Event) → ((k : ℕ) (c : Call) → slice_get p.calls k ≡ Some c → IsFit c)
-    → EachFollows inode (past journal)
+    → EachFollows inode (newest_first journal)
     → events_of n journal ≡ own inode.settings.mode n p i h
-    → StepBy i (n + 1) (past journal)
+    → StepBy i (n + 1) (newest_first journal)
     (step_in p (call_at p (thought inode.settings.mode p h).mind)
     (thought inode.settings.mode p h).mind)
 next_is_by inode n p h i journal fit legal owns =
-    call_by inode (n + 1) (past journal) p (thought inode.settings.mode p h).mind i
+    call_by inode (n + 1) (newest_first journal) p (thought inode.settings.mode p h).mind i
     (call_at p (thought inode.settings.mode p h).mind) refl
     (files_fit inode n p h i journal fit legal owns)

@@ -21,9 +21,9 @@ use Rattle.call_steps.specs.declared.due.Next.{Next}
 use Rattle.call_steps.specs.declared.due.Next.TheVariants.{On, Over}
 use Rattle.run_model.specs.History.{Answer, Thought, call_at, hear, hear_in, step_at, step_in}
 use Rattle.run_model.specs.Scene.{Program}
-use Rattle.world_model.specs.WorldConsts.{Site, WorldConsts, inode_in}
+use Rattle.world_model.specs.WorldConsts.{InodeConsts, WorldConsts, inode_in}
 use Rattle.world_model.specs.Tasks.{Collects, HashesFor, HasSummed, HasTakenIn}
-use Rattle.inode_events.specs.Past.{past}
+use Rattle.inode_events.specs.NewestFirst.{newest_first}
 use Rattle.world_model.specs.declared.hash_state.HashState.{HashState}
 use Rattle.world_model.specs.Due.{HashesAfter, HashesAfterStep}
 use Rattle.world_model.proofs.Rows.{Follows, HashesAfterAsk, HashesAsk, IsIdle, first_begins, row}
@@ -31,10 +31,10 @@ use Rattle.world_model.proofs.Rows.{Follows, HashesAfterAsk, HashesAsk, IsIdle, 
 -- ---- what is hashed, by the ask and by its step
 
 abbrev Takes : Inode → List Event → HashState → Type 0
-Takes inode list g = Collects inode (past list) (HasTakenIn g)
+Takes inode list g = Collects inode (newest_first list) (HasTakenIn g)
 
 abbrev Sums : Inode → List Event → HashState → Type 0
-Sums inode list g = Collects inode (past list) (HasSummed g)
+Sums inode list g = Collects inode (newest_first list) (HasSummed g)
 
 abbrev Hashes : Inode → List Event → HashState → Ask → Type 0
 Hashes inode list g k = HashesAsk (Takes inode list g) (Sums inode list g) k
@@ -57,7 +57,7 @@ no_deed consts passes g c b = tt
 
 pub by_ask : (consts : WorldConsts) (passes : List (Passed Event)) (g : HashState) (admin : Bool)
     (c : Call) (p : Progress) (k : Ask)
-    → ((s : Site) (q : Passed Event) → slice_get consts.sites p.inode ≡ Some s
+    → ((s : InodeConsts) (q : Passed Event) → slice_get consts.each_inode p.inode ≡ Some s
     → slice_get passes p.inode ≡ Some q → Hashes (inode_in consts s) q.seen g k)
     → HashesFor consts passes g (Some (step_by admin c p k))
 by_ask consts passes g admin c p ask.Count x = λ s q a b. tt
@@ -76,8 +76,8 @@ by_ask consts passes g admin c p ask.CloseChunk x = x
 by_ask consts passes g admin c p ask.CloseFinish x = x
 by_ask consts passes g admin c p ask.Plain x = no_deed consts passes g c admin
 
-idle_ask : (consts : WorldConsts) (s : Site) (q : Passed Event) (g : HashState) (k : Ask) → IsIdle k
-    → Hashes (inode_in consts s) q.seen g k
+idle_ask : (consts : WorldConsts) (s : InodeConsts) (q : Passed Event) (g : HashState) (k : Ask)
+    → IsIdle k → Hashes (inode_in consts s) q.seen g k
 idle_ask consts s q g (ask.Take slot) x = tt
 idle_ask consts s q g ask.Chunk x = absurd x
 idle_ask consts s q g ask.Finish x = absurd x
@@ -89,7 +89,7 @@ idle_ask consts s q g k x = tt
 after_ask : (consts : WorldConsts) (passes : List (Passed Event)) (g : HashState) (admin : Bool)
     (c : Call)
     (p : Progress) (t : Told) (k : Ask) → HashesAfterStep consts passes g (step_by admin c p k) t
-    → (s : Site) (q : Passed Event) → slice_get consts.sites p.inode ≡ Some s
+    → (s : InodeConsts) (q : Passed Event) → slice_get consts.each_inode p.inode ≡ Some s
     → slice_get passes p.inode ≡ Some q
     → HashesAfterAsk (Takes (inode_in consts s) q.seen g) (Sums (inode_in consts s) q.seen g) k t
 after_ask consts passes g admin c p t (ask.Take slot) x s q a b = take_after t (x s q a b) where
@@ -133,7 +133,7 @@ module _ (consts : WorldConsts) (passes : List (Passed Event)) (g : HashState) (
 
   hashes_moved : (c : Call) (m : Mind) (gg : Progress) (place : ℕ) (n : Next) (k : Ask)
       → call_at p m ≡ Some c
-      → ((s : Site) (q : Passed Event) → slice_get consts.sites gg.inode ≡ Some s
+      → ((s : InodeConsts) (q : Passed Event) → slice_get consts.each_inode gg.inode ≡ Some s
       → slice_get passes gg.inode ≡ Some q
       → Follows (course_of c) k (Takes (inode_in consts s) q.seen g)
       (Sums (inode_in consts s) q.seen g) n)

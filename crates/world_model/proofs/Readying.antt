@@ -11,7 +11,7 @@ use Rattle.inode_events.specs.Checks.{Check, last_check, no_action, slot_of}
 use Rattle.inode_events.specs.Inode.{Inode}
 use Rattle.inode_events.specs.Integrity.{Collection}
 use Rattle.inode_events.specs.Legal.{May}
-use Rattle.inode_events.specs.Past.{past}
+use Rattle.inode_events.specs.NewestFirst.{newest_first}
 use Rattle.inode_events.specs.Stage.{CloseCollected, CloseCollecting, Collected, Collecting, Stage, is_collecting, is_gone, stage, stage_in}
 use Rattle.inode_events.specs.declared.deed.Deed.{Deed}
 use Rattle.inode_events.specs.declared.deed.Deed.TheVariants as deed
@@ -30,7 +30,7 @@ use Rattle.run_model.specs.Scene.{Program}
 use Rattle.run_model.specs.Served.{events_of}
 use Rattle.world_model.specs.laws_of_progress.NextSteps.{MayMake}
 use Rattle.world_model.proofs.laws_of_progress.Making.{next_step_may}
-use Rattle.world_model.specs.WorldConsts.{Site, WorldConsts, inode_in, mode_in}
+use Rattle.world_model.specs.WorldConsts.{InodeConsts, WorldConsts, inode_in, mode_in}
 use Rattle.world_model.specs.Tasks.{Collects, HashesBefore, HashesFor, HasPlayed, HasSummed, HasTakenIn, Tasked, action_by, last_action}
 use Rattle.world_model.specs.declared.hash_state.HashState.{HashState}
 use Rattle.world_model.specs.Due.{slot_in}
@@ -56,15 +56,16 @@ may_of inode n i p d (Some (Appends rule)) m b e = absurd e
 
 -- ---- what is hashed
 
-hashes_of : (consts : WorldConsts) (passes : List (Passed Event)) (g : HashState) (i : ℕ) (s : Site)
-    (q : Passed Event) (d : Deed) (o : Option Step) → slice_get consts.sites i ≡ Some s
+hashes_of : (consts : WorldConsts) (passes : List (Passed Event)) (g : HashState) (i : ℕ)
+    (s : InodeConsts)
+    (q : Passed Event) (d : Deed) (o : Option Step) → slice_get consts.each_inode i ≡ Some s
     → slice_get passes i ≡ Some q → HashesFor consts passes g o → IsStepOn i d o
     → HashesBefore (inode_in consts s) q.seen g d
 hashes_of consts passes g i s q d None a b x e = absurd e
 hashes_of consts passes g i s q d (Some Nothing) a b x e = absurd e
 hashes_of consts passes g i s q d (Some (Does j y)) a b x e =
     subst (λ (z : Deed). HashesBefore (inode_in consts s) q.seen g z) e.1
-    (x s q (ap (slice_get consts.sites) e.0 ∙ a) (ap (slice_get passes) e.0 ∙ b))
+    (x s q (ap (slice_get consts.each_inode) e.0 ∙ a) (ap (slice_get passes) e.0 ∙ b))
 hashes_of consts passes g i s q d (Some (Checks j file func mask)) a b x e =
     subst (λ (z : Deed). HashesBefore (inode_in consts s) q.seen g z) e.1 tt
 hashes_of consts passes g i s q d (Some (Signals y)) a b x e = absurd e
@@ -73,24 +74,25 @@ hashes_of consts passes g i s q d (Some (Appends rule)) a b x e = absurd e
 module _ (inode : Inode) (n : ℕ) (seen list : List Event) (mine : List (ℕ × Event))
     (l : HasLooked inode n seen list mine) where
   -- the task's own events determine the stage of a file that it opened
-  own_stage : (f : ℕ) → counter f (past list) ≡ Some n
-      → stage_in inode f (reverse mine) ≡ stage inode f (past list)
+  own_stage : (f : ℕ) → counter f (newest_first list) ≡ Some n
+      → stage_in inode f (reverse mine) ≡ stage inode f (newest_first list)
   own_stage f c =
       ap (λ (xs : List (ℕ × Event)). stage_in inode f xs)
       (sym (own_bridge n list ∙ ap reverse l.own))
-      ∙ sym (stage_own inode n f (past list) l.owned c)
+      ∙ sym (stage_own inode n f (newest_first list) l.owned c)
 
-  stays_open : (f : ℕ) (x : Stage) → is_collecting x ≡ true → stage inode f (past list) ≡ x
-      → counter f (past list) ≡ Some n → All (λ y. y.0 < length seen) mine
+  stays_open : (f : ℕ) (x : Stage) → is_collecting x ≡ true → stage inode f (newest_first list) ≡ x
+      → counter f (newest_first list) ≡ Some n → All (λ y. y.0 < length seen) mine
       → (P : Collection → Type 0)
-      → Collects inode (past seen) P → Collects inode (past list) P
+      → Collects inode (newest_first seen) P → Collects inode (newest_first list) P
   stays_open f x c m b below P y = record {
     collection = y.collection;
     is_open = l.tells.collection f below (ap is_collecting (own_stage f b ∙ m) ∙ c) ∙ y.is_open;
     has = y.has;
   }
 
-  hashes_still : (g : HashState) (d : Deed) → May inode (past list) d → IsBy n d (past list)
+  hashes_still : (g : HashState) (d : Deed) → May inode (newest_first list) d
+      → IsBy n d (newest_first list)
       → All (λ y. y.0 < length seen) mine → HashesBefore inode seen g d
       → HashesBefore inode list g d
   hashes_still g (deed.Chunk f) m b below x =
@@ -154,17 +156,18 @@ last_check_is mode n p i h file slot r =
 module _ (inode : Inode) (n : ℕ) (p : Program) (h : List Answer) (i : ℕ) (seen list : List Event)
     (mine : List (ℕ × Event)) (l : HasLooked inode (n + 1) seen list mine)
     (owns : mine ≡ own inode.settings.mode n p i h) where
-  take_asks : (file : ℕ) (slot : Slot) → May inode (past list) (deed.Take file)
-      → IsBy (n + 1) (deed.Take file) (past list) → ByCheck inode.settings.mode p h i file slot
+  take_asks : (file : ℕ) (slot : Slot) → May inode (newest_first list) (deed.Take file)
+      → IsBy (n + 1) (deed.Take file) (newest_first list)
+      → ByCheck inode.settings.mode p h i file slot
       → AsksBy list (last_action inode.settings.mode p h) slot (deed.Take file)
   take_asks file slot m b r =
       let k = last_check_is inode.settings.mode n p i h file slot r in
-      let here : last_check file (past list) ≡ check_in file (reverse mine) =
+      let here : last_check file (newest_first list) ≡ check_in file (reverse mine) =
       l.tells.check file
       (ap is_gone (own_stage inode (n + 1) seen list mine l file (b file (eq-eqb file file refl))
       ∙ m)) in
       let there : check_in file (reverse (own inode.settings.mode n p i h))
-      ≡ last_check file (past list) =
+      ≡ last_check file (newest_first list) =
       ap (λ (xs : List (ℕ × Event)). check_in file (reverse xs)) (sym owns) ∙ sym here in (
         k.slot_is ∙ ap (λ (c : Check). slot_of c.func) there,
         k.action_is ∙ ap (λ (c : Check). c.action) there,
@@ -190,17 +193,17 @@ module _ (inode : Inode) (n : ℕ) (p : Program) (h : List Answer) (i : ℕ) (se
 
   module _ (checked : ActionValue) (is : checked ≡ last_action inode.settings.mode p h) where
     take_row : (j f : ℕ) (slot : Slot) (d : Deed) → j ≡ i → deed.Take f ≡ d
-        → May inode (past list) d → IsBy (n + 1) d (past list)
+        → May inode (newest_first list) d → IsBy (n + 1) d (newest_first list)
         → ByCheck inode.settings.mode p h j f slot → AsksBy list checked slot d
     take_row j f slot d a e m b r =
-        subst (λ (x : Deed). May inode (past list) x → IsBy (n + 1) x (past list)
+        subst (λ (x : Deed). May inode (newest_first list) x → IsBy (n + 1) x (newest_first list)
         → AsksBy list checked slot x) e
         (λ m2 b2. subst (λ (x : ActionValue). AsksBy list x slot (deed.Take f)) (sym is)
         (take_asks f slot m2 b2
         (subst (λ (k : ℕ). ByCheck inode.settings.mode p h k f slot) a r))) m b
 
     asks_row : (admin : Bool) (c : Call) (g : Progress) (d : Deed) (k : Ask)
-        → May inode (past list) d → IsBy (n + 1) d (past list)
+        → May inode (newest_first list) d → IsBy (n + 1) d (newest_first list)
         → IsStepOn i d (Some (step_by admin c g k))
         → IfTake inode.settings.mode p h g.inode g.file k
         → AsksBy list checked (slot_in (Some k)) d
@@ -234,8 +237,8 @@ module _ (inode : Inode) (n : ℕ) (p : Program) (h : List Answer) (i : ℕ) (se
     asks_row admin c g d ask.Plain m b e r =
         no_asks checked (slot_in (Some ask.Plain)) c admin d e
 
-    asks_call : (m : Mind) (d : Deed) (o : Option Call) → May inode (past list) d
-        → IsBy (n + 1) d (past list) → IsStepOn i d (step_in p o m)
+    asks_call : (m : Mind) (d : Deed) (o : Option Call) → May inode (newest_first list) d
+        → IsBy (n + 1) d (newest_first list) → IsStepOn i d (step_in p o m)
         → ((c : Call) → o ≡ Some c
         → IfTake inode.settings.mode p h (progress_of p.cred.admin c m).inode
         (progress_of p.cred.admin c m).file (progress_of p.cred.admin c m).due.ask)
@@ -248,9 +251,9 @@ module _ (inode : Inode) (n : ℕ) (p : Program) (h : List Answer) (i : ℕ) (se
 
 -- ---- all parts of readiness together
 
-ready_at : (consts : WorldConsts) (t : Tasked) (h : List Answer) (i : ℕ) (s : Site)
+ready_at : (consts : WorldConsts) (t : Tasked) (h : List Answer) (i : ℕ) (s : InodeConsts)
     (q : Passed Event) (list : List Event) (d : Deed) (m : Mind) → HasPlayed consts t h
-    → slice_get consts.sites i ≡ Some s → slice_get t.passes.inodes i ≡ Some q
+    → slice_get consts.each_inode i ≡ Some s → slice_get t.passes.inodes i ≡ Some q
     → HasLooked (inode_in consts s) (t.number + 1) q.seen list q.mine
     → (thought (mode_in consts) t.mind.program h).mind ≡ m
     → HashesFor consts t.passes.inodes t.hash_state (step_at t.mind.program m)
@@ -263,13 +266,13 @@ ready_at consts t h i s q list d m x a b l same hashed e =
     let own_is : q.mine ≡ own (mode_in consts) t.number p i h = x.events i q b in
     let owns : events_of t.number list ≡ own (mode_in consts) t.number p i h = l.own ∙ own_is in
     let fit = λ (k : ℕ) (c : Call) (z : slice_get p.calls k ≡ Some c). (x.calls k c z).0 in
-    let may : MayMake inode i (past list) (step_at p m) =
-    subst (λ (y : Mind). MayMake inode i (past list) (step_at p y)) same
+    let may : MayMake inode i (newest_first list) (step_at p m) =
+    subst (λ (y : Mind). MayMake inode i (newest_first list) (step_at p y)) same
     (next_step_may inode t.number p h i list fit l.legal.1 l.owned owns) in
-    let by : StepBy i (t.number + 1) (past list) (step_at p m) =
-    subst (λ (y : Mind). StepBy i (t.number + 1) (past list) (step_at p y)) same
+    let by : StepBy i (t.number + 1) (newest_first list) (step_at p m) =
+    subst (λ (y : Mind). StepBy i (t.number + 1) (newest_first list) (step_at p y)) same
     (next_is_by inode t.number p h i list fit l.legal.1 owns) in
-    let both = may_of inode (t.number + 1) i (past list) d (step_at p m) may by e in
+    let both = may_of inode (t.number + 1) i (newest_first list) d (step_at p m) may by e in
     let takes : (c : Call) → call_at p m ≡ Some c
     → IfTake (mode_in consts) p h (progress_of p.cred.admin c m).inode
     (progress_of p.cred.admin c m).file (progress_of p.cred.admin c m).due.ask =

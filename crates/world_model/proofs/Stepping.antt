@@ -7,7 +7,7 @@ use Rattle.world_model.proofs.laws_of_runs.Owned.{set_parts}
 use Rattle.run_model.specs.History.{Thought}
 use Rattle.run_model.specs.Rounds.{is_moved, moves_at}
 use Rattle.run_model.specs.Scene.{Program, Scene}
-use Rattle.run_model.specs.Turns.{Moment, Turned, go, turned}
+use Rattle.run_model.specs.Turns.{Moment, Turned, step_task, turned}
 use Rattle.run_model.specs.declared.turn.Turn.{Turn}
 use Rattle.world_model.specs.WorldConsts.{WorldConsts}
 use Rattle.world_model.specs.Runs.{AreTasks, IsNth, program_of, programs_of, thought_of}
@@ -15,7 +15,7 @@ use Rattle.world_model.specs.Tasks.{IsTask, Tasked}
 use Rattle.world_model.specs.World.{WorldValue}
 use Rattle.world_model.proofs.Eventing.{get_map}
 use Rattle.world_model.specs.TurnLaws.{StepIsTurn}
-use Rattle.world_model.specs.WorldRuns.{GoesTo, IsTurn, KeepsTask, SameRun, moment_in, scene_in}
+use Rattle.world_model.specs.WorldRuns.{IsTurn, KeepsTask, SameRun, StepsTaskTo, moment_in, scene_in}
 
 -- writing an element with the same image leaves the map of a list as it was
 map_same : {A B : Type 0} (f : A → B) (xs : List A) (i : ℕ) (x y : A) → slice_get xs i ≡ Some x
@@ -57,7 +57,7 @@ module _ (world world2 : WorldValue) (tasks : List Tasked) (k : ℕ) (t t2 : Tas
         subst (λ (f : WorldConsts). IsNth f j x) (sym keeps.consts) (all.each j x e.1)
 
   -- the effect of the step is that of a turn of its task
-  is_turn : (r : Turn) → GoesTo world world2 t t2 r → IsTurn world world2 tasks tasks2 k r
+  is_turn : (r : Turn) → StepsTaskTo world world2 t t2 r → IsTurn world world2 tasks tasks2 k r
   is_turn r goes = record {
     moment = sym (ap (λ (o : Option Program). turned scene start k o (slice_get start.thoughts k))
         program_there
@@ -79,9 +79,9 @@ module _ (world world2 : WorldValue) (tasks : List Tasked) (k : ℕ) (t t2 : Tas
     thought_there : slice_get start.thoughts k ≡ Some t.mind.thought
     thought_there = get_map thought_of tasks k t there
 
-    gone : go scene k t.mind.program world.state t.mind.thought
+    gone : step_task scene k t.mind.program world.state t.mind.thought
         ≡ record { state = world2.state; thought = t2.mind.thought; turn = r }
-    gone = subst (λ (n : ℕ). go scene n t.mind.program world.state t.mind.thought
+    gone = subst (λ (n : ℕ). step_task scene n t.mind.program world.state t.mind.thought
         ≡ record { state = world2.state; thought = t2.mind.thought; turn = r })
         (all.each k t there).number (goes (programs_of tasks))
 

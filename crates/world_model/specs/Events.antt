@@ -8,7 +8,7 @@ use Rattle.inode_events.specs.declared.deed.Deed.{Deed}
 use Rattle.inode_events.specs.declared.told.Event.{Event}
 use Rattle.inode_events.specs.declared.told.Told.{Told}
 use Rattle.run_model.specs.Turns.{State, state_on}
-use Rattle.world_model.specs.WorldConsts.{Site, WorldConsts, inode_in}
+use Rattle.world_model.specs.WorldConsts.{InodeConsts, WorldConsts, inode_in}
 use Rattle.world_model.specs.Tasks.{PassesValue}
 use Rattle.world_model.specs.declared.hash_state.HashState.{HashState}
 use Rattle.world_model.specs.Due.{HashesTold}
@@ -16,7 +16,7 @@ use Rattle.world_model.specs.Ready.{HasLooked}
 use Rattle.world_model.specs.Steps.{Adds}
 
 -- the deed on this inode, with this outcome: None if it was blocked or ran out of memory
-pub record EventOn (consts : WorldConsts) (i : ℕ) (s : Site) (who : Who) (d : Deed)
+pub record EventOn (consts : WorldConsts) (i : ℕ) (s : InodeConsts) (who : Who) (d : Deed)
     (old new : State)
     (passes passes2 : PassesValue) (g g2 : HashState) (o : Option Told) : Type 0 where
   pub journal : List Event

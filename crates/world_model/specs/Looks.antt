@@ -6,7 +6,7 @@ use Rattle.inode_events.specs.declared.told.Event.{Event}
 use Rattle.run_model.specs.History.{Answer}
 use Rattle.run_model.specs.Served.{events_of, rules_of}
 use Rattle.run_model.specs.Turns.{State}
-use Rattle.world_model.specs.WorldConsts.{Site, WorldConsts, inode_in}
+use Rattle.world_model.specs.WorldConsts.{InodeConsts, WorldConsts, inode_in}
 use Rattle.world_model.specs.Runs.{HasMade}
 use Rattle.world_model.specs.Tasks.{HasPlayed, IsTask, PassesValue, Tasked}
 use Rattle.world_model.specs.Plays.{task_left}
@@ -24,14 +24,14 @@ pub record InodeLooked (consts : WorldConsts) (n i : ℕ) (journals : List (List
   pub journal : List Event
   pub journal_at : slice_get journals i ≡ Some journal
   pub seen : new.seen ≡ journal
-  pub looked : (s : Site) → slice_get consts.sites i ≡ Some s
+  pub looked : (s : InodeConsts) → slice_get consts.each_inode i ≡ Some s
       → HasLooked (inode_in consts s) n before.seen journal before.mine
 
 -- the task's passes, brought up to date with all lists
 pub record HasLookedAtAll (consts : WorldConsts) (t : Tasked) (s : State) (passes : PassesValue)
     : Type 0 where
   pub even : length passes.inodes ≡ length t.passes.inodes
-  pub journals : length s.journals ≡ length consts.sites
+  pub journals : length s.journals ≡ length consts.each_inode
   pub inodes : (i : ℕ) (q : Passed Event) → slice_get passes.inodes i ≡ Some q
       → InodeLooked consts (t.number + 1) i s.journals t.passes.inodes q
   pub sems : Adds t.passes.sems passes.sems []

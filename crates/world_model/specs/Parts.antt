@@ -8,15 +8,15 @@ use Rattle.policy_cell.specs.Policy.{PolicyValue}
 use Rattle.policy_rules.specs.declared.access.Super.{Super}
 use Rattle.run_model.specs.Turns.{State}
 use Rattle.world_model.specs.WorldConsts.{WorldConsts, boot_in}
-use Rattle.world_model.specs.World.{AreRulesOf, AreSignalsOf, IsBookOf, IsStation, StationValue, journal_of, site_of}
+use Rattle.world_model.specs.World.{AreRulesOf, AreSignalsOf, IsBookOf, IsWorldInode, WorldInodeValue, inode_consts_of, journal_of}
 
 -- the constants of a world with these parts
-abbrev pub consts_by : Settings → List StationValue → List Super → Grown Entry → Grown Event
+abbrev pub consts_by : Settings → List WorldInodeValue → List Super → Grown Entry → Grown Event
     → PolicyValue → ℕ → WorldConsts
-consts_by settings stations supers book sems rules tasks = record {
+consts_by settings world_inodes supers book sems rules tasks = record {
   settings = settings;
   boot = boot_in book.list;
-  sites = map site_of stations;
+  each_inode = map inode_consts_of world_inodes;
   supers = supers;
   base = rules.base;
   book = book.name;
@@ -26,18 +26,19 @@ consts_by settings stations supers book sems rules tasks = record {
 }
 
 -- the lists of a world with these parts
-abbrev pub state_by : List StationValue → Grown Entry → Grown Event → PolicyValue → State
-state_by stations book sems rules = record {
-  journals = map journal_of stations;
+abbrev pub state_by : List WorldInodeValue → Grown Entry → Grown Event → PolicyValue → State
+state_by world_inodes book sems rules = record {
+  journals = map journal_of world_inodes;
   list = book.list;
   signals = sems.list;
   added = rules.appended.list;
 }
 
 -- each part belongs to the constants
-pub record AreParts (consts : WorldConsts) (inodes : List StationValue) (list : Grown Entry)
+pub record AreParts (consts : WorldConsts) (inodes : List WorldInodeValue) (list : Grown Entry)
     (signals : Grown Event) (policy : PolicyValue) : Type 0 where
-  pub stations : (i : ℕ) (s : StationValue) → slice_get inodes i ≡ Some s → IsStation consts i s
+  pub world_inodes : (i : ℕ) (s : WorldInodeValue) → slice_get inodes i ≡ Some s
+      → IsWorldInode consts i s
   pub book : IsBookOf consts list
   pub sems : AreSignalsOf consts signals
   pub rules : AreRulesOf consts policy

@@ -65,7 +65,7 @@ pub record HasStepped (consts : WorldConsts) (t t2 : Tasked) (a : Answer) : Type
 -- a task that has made no step is a task of every world whose passes it has
 abbrev pub FreshIsTask : Type 0
 FreshIsTask = (consts : WorldConsts) (t : Tasked)
-    → AreCallsOf (length consts.sites) t.mind.program.calls
+    → AreCallsOf (length consts.each_inode) t.mind.program.calls
     → t.mind.thought ≡ start → t.mind.checked ≡ no_action → ArePassesOf consts t.number t.passes
     → AreUnused t.passes → HasPlayed consts t []
 

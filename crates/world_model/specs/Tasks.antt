@@ -9,7 +9,7 @@ use Rattle.run_laws.specs.policy.ActionValue.{ActionValue}
 use Rattle.run_laws.specs.events.Checks.{no_action}
 use Rattle.run_laws.specs.events.Inode.{Inode}
 use Rattle.run_laws.specs.events.Integrity.{Collection, collecting, digest_from}
-use Rattle.run_laws.specs.events.Past.{past}
+use Rattle.run_laws.specs.events.NewestFirst.{newest_first}
 use Rattle.run_laws.specs.events.declared.deed.Deed.{Deed}
 use Rattle.run_laws.specs.events.declared.deed.Deed.TheVariants as deed
 use Rattle.run_laws.specs.events.declared.told.Event.{Event}
@@ -24,8 +24,8 @@ use Rattle.run_laws.specs.Checks.{ChecksFit, seen_by}
 use Rattle.run_laws.specs.model.History.{Answer, own, own_rules, own_signals, step_at, thought}
 use Rattle.run_laws.specs.model.Scene.{Program}
 use Rattle.progress_laws.specs.NextSteps.{IsFit}
-use Rattle.progress_laws.specs.Stations.{IsWithin}
-use Rattle.world_model.specs.WorldConsts.{Site, WorldConsts, inode_in, mode_in, scene_of}
+use Rattle.progress_laws.specs.ScriptFiles.{IsWithin}
+use Rattle.world_model.specs.WorldConsts.{InodeConsts, WorldConsts, inode_in, mode_in, scene_of}
 use Rattle.world_model.specs.declared.hash_state.HashState.{HashState}
 use Rattle.world_model.specs.declared.hash_state.HashState.TheVariants as hash_state
 use Rattle.task_mind.specs.Value.{TaskValue}
@@ -43,12 +43,12 @@ pub record PassesValue : Type 0 where
 -- The passes are those of task n: it is caller n + 1 in the journals, follows the inodes in the
 -- measurement list, and is caller n among those who append rules.
 pub record ArePassesOf (consts : WorldConsts) (n : ℕ) (passes : PassesValue) : Type 0 where
-  pub even : length passes.inodes ≡ length consts.sites
-  pub inodes : (i : ℕ) (s : Site) (q : Passed Event) → slice_get consts.sites i ≡ Some s
+  pub even : length passes.inodes ≡ length consts.each_inode
+  pub inodes : (i : ℕ) (s : InodeConsts) (q : Passed Event) → slice_get consts.each_inode i ≡ Some s
       → slice_get passes.inodes i ≡ Some q → (q.name ≡ s.journal) × (q.number ≡ n + 1)
   pub sems : (passes.sems.name ≡ consts.signals) × (passes.sems.number ≡ n + 1)
   pub book : (passes.book.name ≡ consts.book)
-      × (passes.book.number ≡ 1 + length consts.sites + n)
+      × (passes.book.number ≡ 1 + length consts.each_inode + n)
   pub rules : (passes.rules.name ≡ consts.rules) × (passes.rules.number ≡ n)
 
 -- no pass has an entry of its own
@@ -81,16 +81,16 @@ HasSummed _ c = ⊥
 -- if the deed continues or ends a collection, the task has hashed exactly what that collection
 -- took, according to the journal as the task last saw it
 abbrev pub HashesBefore : Inode → List Event → HashState → Deed → Type 0
-HashesBefore inode seen g (deed.Chunk file) = Collects inode (past seen) (HasTakenIn g)
-HashesBefore inode seen g (deed.CloseChunk file) = Collects inode (past seen) (HasTakenIn g)
-HashesBefore inode seen g (deed.Finish file) = Collects inode (past seen) (HasSummed g)
-HashesBefore inode seen g (deed.CloseFinish file) = Collects inode (past seen) (HasSummed g)
+HashesBefore inode seen g (deed.Chunk file) = Collects inode (newest_first seen) (HasTakenIn g)
+HashesBefore inode seen g (deed.CloseChunk file) = Collects inode (newest_first seen) (HasTakenIn g)
+HashesBefore inode seen g (deed.Finish file) = Collects inode (newest_first seen) (HasSummed g)
+HashesBefore inode seen g (deed.CloseFinish file) = Collects inode (newest_first seen) (HasSummed g)
 HashesBefore inode seen g _ = Unit {0}
 
 -- what the task has hashed suits its next step, if that is a deed on an inode (see `HashesBefore`)
 abbrev pub HashesFor : WorldConsts → List (Passed Event) → HashState → Option Step → Type 0
 HashesFor consts passes g (Some (Does i d)) =
-    (s : Site) (q : Passed Event) → slice_get consts.sites i ≡ Some s
+    (s : InodeConsts) (q : Passed Event) → slice_get consts.each_inode i ≡ Some s
     → slice_get passes i ≡ Some q → HashesBefore (inode_in consts s) q.seen g d
 HashesFor consts passes g _ = Unit {0}
 
@@ -124,7 +124,7 @@ AreCallsOf count calls =
 -- The task has made exactly the steps of the history: its thought results from them, and the own
 -- entries of its passes are those that the history adds to each list.
 pub record HasPlayed (consts : WorldConsts) (t : Tasked) (h : List Answer) : Type 0 where
-  pub calls : AreCallsOf (length consts.sites) t.mind.program.calls
+  pub calls : AreCallsOf (length consts.each_inode) t.mind.program.calls
   pub stands : thought (mode_in consts) t.mind.program h ≡ t.mind.thought
   pub checked : t.mind.checked ≡ last_action (mode_in consts) t.mind.program h
   pub passes : ArePassesOf consts t.number t.passes

@@ -5,7 +5,7 @@ use Rattle.run_model.specs.declared.turn.Turn.{Turn}
 use Rattle.world_model.specs.Runs.{AreTasks}
 use Rattle.world_model.specs.Tasks.{Tasked}
 use Rattle.world_model.specs.World.{WorldValue}
-use Rattle.world_model.specs.WorldRuns.{GoesTo, HasRounded, HasTurned, IsInRound, IsRound, IsTurn, KeepsTask, SameRun, moment_in, scene_in}
+use Rattle.world_model.specs.WorldRuns.{HasRounded, HasTurned, IsInRound, IsRound, IsTurn, KeepsTask, SameRun, StepsTaskTo, moment_in, scene_in}
 
 -- a step of one task is a turn of all; without a turn, as when memory runs out, they are still the
 -- tasks of their world
@@ -13,7 +13,7 @@ abbrev pub StepIsTurn : Type 0
 StepIsTurn = (world world2 : WorldValue) (tasks : List Tasked) (k : ℕ) (t t2 : Tasked)
     → AreTasks world.consts tasks → slice_get tasks k ≡ Some t → KeepsTask world world2 t t2
     → SameRun world world2 tasks (slice_set tasks k t2)
-    × ((r : Turn) → GoesTo world world2 t t2 r
+    × ((r : Turn) → StepsTaskTo world world2 t t2 r
     → IsTurn world world2 tasks (slice_set tasks k t2) k r)
 
 -- the turns of a list and one turn more are the turns of the list with that task appended

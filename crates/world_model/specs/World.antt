@@ -6,9 +6,9 @@ use Rattle.run_laws.specs.events.declared.told.Event.{Event}
 use Rattle.inode_cell.specs.Value.{CellValue}
 use Rattle.run_laws.specs.rules.Policy.{PolicyValue}
 use Rattle.run_laws.specs.rules.declared.cell.RuleEntry.{RuleEntry}
-use Rattle.run_laws.specs.Stations.{StationRules}
+use Rattle.run_laws.specs.ScriptFiles.{ScriptFileRules}
 use Rattle.run_laws.specs.model.Turns.{State}
-use Rattle.world_model.specs.WorldConsts.{Site, WorldConsts}
+use Rattle.world_model.specs.WorldConsts.{InodeConsts, WorldConsts}
 
 -- a world as contracts see it: its constants and its lists
 pub record WorldValue : Type 0 where
@@ -16,20 +16,20 @@ pub record WorldValue : Type 0 where
   pub state : State
 
 -- an inode of a world: its cell, its pass of the appended rules, and the number of its file system
-pub record StationValue : Type 0 where
+pub record WorldInodeValue : Type 0 where
   pub cell : CellValue
   pub rules : Passed RuleEntry
   pub place : ℕ
 
-abbrev pub site_of : StationValue → Site
-site_of s = record {
+abbrev pub inode_consts_of : WorldInodeValue → InodeConsts
+inode_consts_of s = record {
   path = s.cell.inode.path;
   birth = s.cell.inode.birth;
   place = s.place;
   journal = s.cell.journal;
 }
 
-abbrev pub journal_of : StationValue → List Event
+abbrev pub journal_of : WorldInodeValue → List Event
 journal_of s = s.cell.list
 
 -- ---- the invariants of the parts
@@ -38,8 +38,8 @@ journal_of s = s.cell.list
 -- the list's own, and its pass of the appended rules comes after those of the tasks. Along its
 -- journal the rules that its checks count never decrease, and stay within those that its pass has
 -- seen.
-pub record IsStation (consts : WorldConsts) (i : ℕ) (s : StationValue) : Type 0 where
-  pub site : slice_get consts.sites i ≡ Some (site_of s)
+pub record IsWorldInode (consts : WorldConsts) (i : ℕ) (s : WorldInodeValue) : Type 0 where
+  pub inode_consts : slice_get consts.each_inode i ≡ Some (inode_consts_of s)
   pub settings : s.cell.inode.settings ≡ consts.settings
   pub place : s.place < length consts.supers
   pub callers : s.cell.callers ≡ consts.tasks + 1
@@ -48,13 +48,13 @@ pub record IsStation (consts : WorldConsts) (i : ℕ) (s : StationValue) : Type 
   pub rules_name : s.rules.name ≡ consts.rules
   pub rules_number : s.rules.number ≡ consts.tasks + i
   pub rules_mine : s.rules.mine ≡ []
-  pub rise : StationRules (length consts.base) s.cell.list s.rules.seen
+  pub rise : ScriptFileRules (length consts.base) s.cell.list s.rules.seen
 
 -- the measurement list, whose callers are itself, the inodes and the tasks
 pub record IsBookOf (consts : WorldConsts) (book : Grown Entry) : Type 0 where
   pub name : book.name ≡ consts.book
   pub boot : slice_get book.list 0 ≡ Some consts.boot
-  pub callers : book.callers ≡ 1 + length consts.sites + consts.tasks
+  pub callers : book.callers ≡ 1 + length consts.each_inode + consts.tasks
 
 -- the journal of the semaphores, whose callers are itself and the tasks
 pub record AreSignalsOf (consts : WorldConsts) (signals : Grown Event) : Type 0 where
@@ -66,5 +66,5 @@ pub record AreSignalsOf (consts : WorldConsts) (signals : Grown Event) : Type 0 
 pub record AreRulesOf (consts : WorldConsts) (p : PolicyValue) : Type 0 where
   pub name : p.appended.name ≡ consts.rules
   pub base : p.base ≡ consts.base
-  pub callers : p.appended.callers ≡ max 1 (consts.tasks + length consts.sites)
+  pub callers : p.appended.callers ≡ max 1 (consts.tasks + length consts.each_inode)
   pub numbers : p.appended.numbers ≡ map (λ (r : RuleEntry). r.who.task) p.appended.list

@@ -11,11 +11,11 @@ use Rattle.run_laws.specs.events.declared.image.Image.{Image}
 use Rattle.run_laws.specs.events.declared.settings.Settings.{Settings}
 use Rattle.run_laws.specs.policy.RuleValue.{RuleValue}
 use Rattle.run_laws.specs.policy.declared.access.Super.{Super}
-use Rattle.run_laws.specs.model.Scene.{Program, Scene, Station, no_super}
+use Rattle.run_laws.specs.model.Scene.{Program, Scene, ScriptFile, no_super}
 
 -- the constants of an inode: its path, its initial image, the number of its file system, and the
 -- name of its journal
-pub record Site : Type 0 where
+pub record InodeConsts : Type 0 where
   pub path : List ℕ
   pub birth : Image
   pub place : ℕ
@@ -25,7 +25,7 @@ pub record WorldConsts : Type 0 where
   pub settings : Settings
   -- the first entry of the measurement list
   pub boot : Entry
-  pub sites : List Site
+  pub each_inode : List InodeConsts
   -- the file systems, in order
   pub supers : List Super
   -- the rules of the script
@@ -42,8 +42,8 @@ pub record WorldConsts : Type 0 where
 abbrev pub super_at : WorldConsts → ℕ → Super
 super_at consts place = get_or consts.supers place no_super
 
-abbrev pub station_of : WorldConsts → Site → Station
-station_of consts s =
+abbrev pub script_file_of : WorldConsts → InodeConsts → ScriptFile
+script_file_of consts s =
     record { path = s.path; birth = s.birth; place = super_at consts s.place }
 
 -- the scene with these constants and these programs
@@ -51,7 +51,7 @@ abbrev pub scene_of : WorldConsts → List Program → Scene
 scene_of consts programs = record {
   settings = consts.settings;
   boot = consts.boot;
-  stations = map (station_of consts) consts.sites;
+  script_files = map (script_file_of consts) consts.each_inode;
   rules = consts.base;
   programs = programs;
 }
@@ -59,7 +59,7 @@ scene_of consts programs = record {
 abbrev pub mode_in : WorldConsts → Mode
 mode_in consts = consts.settings.mode
 
-abbrev pub inode_in : WorldConsts → Site → Inode
+abbrev pub inode_in : WorldConsts → InodeConsts → Inode
 inode_in consts s = record { path = s.path; settings = consts.settings; birth = s.birth }
 
 -- ---- the first entry of a list

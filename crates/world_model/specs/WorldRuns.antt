@@ -2,7 +2,7 @@
 use Rattle.std.specs.Prelude.{◌≡◌, ℕ, ◌<◌, Bool, true, List}
 use Rattle.run_model.specs.Rounds.{all_tasks, any_moves, is_moved, moves, numbers, round_moves, rounds}
 use Rattle.run_model.specs.Scene.{Program, Scene}
-use Rattle.run_model.specs.Turns.{Moment, go, turn, turns_of}
+use Rattle.run_model.specs.Turns.{Moment, step_task, turn, turns_of}
 use Rattle.run_model.specs.declared.turn.Turn.{Turn}
 use Rattle.world_model.specs.WorldConsts.{scene_of}
 use Rattle.world_model.specs.Runs.{AreTasks, moment_of, programs_of}
@@ -27,9 +27,9 @@ pub record KeepsTask (world world2 : WorldValue) (t t2 : Tasked) : Type 0 where
   pub task : IsTask world2.consts t2
 
 -- the task made its turn, whatever the programs of the others are
-abbrev pub GoesTo : WorldValue → WorldValue → Tasked → Tasked → Turn → Type 0
-GoesTo world world2 t t2 r = (programs : List Program)
-    → go (scene_of world.consts programs) t.number t.mind.program world.state t.mind.thought
+abbrev pub StepsTaskTo : WorldValue → WorldValue → Tasked → Tasked → Turn → Type 0
+StepsTaskTo world world2 t t2 r = (programs : List Program)
+    → step_task (scene_of world.consts programs) t.number t.mind.program world.state t.mind.thought
     ≡ record { state = world2.state; thought = t2.mind.thought; turn = r }
 
 -- ---- turns of many

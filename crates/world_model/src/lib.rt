@@ -8,9 +8,9 @@
 
 mod hash_state;
 mod passes;
-mod station;
+mod world_inode;
 
 pub use hash_state::HashState;
 pub use inode_cell as inodes;
 pub use passes::Passes;
-pub use station::Station;
+pub use world_inode::WorldInode;

@@ -14,40 +14,42 @@ use Rattle.world_close.specs.states.Value.{birth_of}
 use Rattle.policy_cell.specs.Policy.{PolicyValue}
 use Rattle.policy_cell.specs.declared.cell.RuleEntry.{RuleEntry}
 use Rattle.policy_rules.specs.declared.access.Super.{Super}
-use Rattle.world_close.specs.laws_of_runs.Stations.{StationRules}
+use Rattle.world_close.specs.laws_of_runs.ScriptFiles.{ScriptFileRules}
 use Rattle.world_close.proofs.laws_of_runs.Risen.{law_rise_at_first}
 use Rattle.world_close.specs.model.Turns.{newborn}
-use Rattle.world_close.specs.worlds.WorldConsts.{Site, WorldConsts, boot_in, station_of}
+use Rattle.world_close.specs.worlds.WorldConsts.{InodeConsts, WorldConsts, boot_in, script_file_of}
 use Rattle.world_close.specs.worlds.Tasks.{ArePassesOf, AreUnused, PassesValue}
-use Rattle.world_close.specs.worlds.World.{AreRulesOf, AreSignalsOf, IsBookOf, IsStation, StationValue, journal_of, site_of}
-use Rattle.world_close.specs.Closed.{AreSpares, AreStations}
+use Rattle.world_close.specs.worlds.World.{AreRulesOf, AreSignalsOf, IsBookOf, IsWorldInode, WorldInodeValue, inode_consts_of, journal_of}
+use Rattle.world_close.specs.Closed.{AreSpares, AreWorldInodes}
 use Rattle.world_close.proofs.Gets.{all_by_get, get_map, map_get}
 use Rattle.world_close.proofs.Listing.{all_at}
 use Rattle.world_start.proofs.Fresh.{below_max}
 use Rattle.world_close.specs.worlds.Parts.{consts_by, state_by}
 use Rattle.world_start.specs.Start.{AreConstsOf, AreFirstPasses, Begins}
-use Rattle.world_start.specs.Started.{AreFresh, AreRows, AreStarted, IsStarted, SeatsValue, counter_of, file_of, lister_of, named_by, pass_of, place_of, row_of}
+use Rattle.world_start.specs.Started.{AreFresh, AreRows, AreStarted, IsStarted, SeatsValue, file_of, list_pass_of, named_by, pass_of, place_of, row_of, rule_pass_of}
 
 -- the journal of each inode holds only its birth
-born : (settings : Settings) (tasks : ℕ) (consts : WorldConsts) (stations : List StationValue)
-    → All (IsStarted settings tasks) stations
-    → map journal_of stations ≡ map newborn (map (station_of consts) (map site_of stations))
+born : (settings : Settings) (tasks : ℕ) (consts : WorldConsts)
+    (world_inodes : List WorldInodeValue) → All (IsStarted settings tasks) world_inodes
+    → map journal_of world_inodes
+    ≡ map newborn (map (script_file_of consts) (map inode_consts_of world_inodes))
 born settings tasks consts [] all = refl
-born settings tasks consts (s ∷ stations) all =
-    let first = All-head (IsStarted settings tasks) s stations all in
+born settings tasks consts (s ∷ world_inodes) all =
+    let first = All-head (IsStarted settings tasks) s world_inodes all in
     let rest =
-    born settings tasks consts stations (All-tail (IsStarted settings tasks) s stations all) in
+    born settings tasks consts world_inodes
+    (All-tail (IsStarted settings tasks) s world_inodes all) in
     λ i. first.list i ∷ rest i
 
 module _ (settings : Settings) (boot : Entry) (inodes : List (List ℕ × Image))
-    (supers : List Super) (tasks : ℕ) (seats : SeatsValue) (stations : List StationValue)
+    (supers : List Super) (tasks : ℕ) (seats : SeatsValue) (world_inodes : List WorldInodeValue)
     (book : Grown Entry) (sems : Grown Event) (rules : PolicyValue)
-    (started : AreStarted settings tasks inodes seats stations) where
+    (started : AreStarted settings tasks inodes seats world_inodes) where
   abbrev consts : WorldConsts
-  consts = consts_by settings stations supers book sems rules tasks
+  consts = consts_by settings world_inodes supers book sems rules tasks
 
-  even : length (map site_of stations) ≡ length inodes
-  even = length-map stations site_of ∙ sym (length-map stations file_of)
+  even : length (map inode_consts_of world_inodes) ≡ length inodes
+  even = length-map world_inodes inode_consts_of ∙ sym (length-map world_inodes file_of)
       ∙ ap length started.files
 
   -- the constants are those of the script
@@ -56,18 +58,19 @@ module _ (settings : Settings) (boot : Entry) (inodes : List (List ℕ × Image)
   is_consts list = record {
     settings = refl;
     boot = ap boot_in list;
-    files = map-map (λ (s : Site). (s.path, s.birth)) site_of stations ∙ started.files;
+    files = map-map (λ (s : InodeConsts). (s.path, s.birth)) inode_consts_of world_inodes
+        ∙ started.files;
     supers = refl;
-    places = map-map (λ (s : Site). s.place) site_of stations ∙ started.places;
+    places = map-map (λ (s : InodeConsts). s.place) inode_consts_of world_inodes ∙ started.places;
     base = refl;
     tasks = refl;
   }
 
   -- the lists are those with which a run begins
   pub begins : book.list ≡ boot ∷ [] → sems.list ≡ [] → rules.appended.list ≡ []
-      → Begins consts (state_by stations book sems rules)
+      → Begins consts (state_by world_inodes book sems rules)
   begins list signals added programs =
-      let journals = born settings tasks consts stations started.each in
+      let journals = born settings tasks consts world_inodes started.each in
       let first : book.list ≡ boot_in book.list ∷ [] =
       list ∙ ap (λ (b : Entry). b ∷ []) (sym (ap boot_in list)) in
       λ i. record {
@@ -77,62 +80,62 @@ module _ (settings : Settings) (boot : Entry) (inodes : List (List ℕ × Image)
         added = added i;
       }
 
-  module _ (listers : AreFresh book.name (λ k. k + 1) (length inodes) seats.listers)
-      (counters : AreFresh rules.appended.name (λ k. tasks + k) (length inodes) seats.counters)
-      (places : All (λ (p : ℕ). p < length supers) seats.places) where
+  module _ (list_passes : AreFresh book.name (λ k. k + 1) (length inodes) seats.list_passes)
+      (rule_passes : AreFresh rules.appended.name (λ k. tasks + k) (length inodes)
+      seats.rule_passes) (places : All (λ (p : ℕ). p < length supers) seats.places) where
     -- the pass of the measurement list of inode i has caller number i + 1
-    lister : (i : ℕ) (s : StationValue) → slice_get stations i ≡ Some s
-        → lister_of s ≡ (book.name, i + 1)
+    lister : (i : ℕ) (s : WorldInodeValue) → slice_get world_inodes i ≡ Some s
+        → list_pass_of s ≡ (book.name, i + 1)
     lister i s at =
-        by (get_map named_by seats.listers i (lister_of s)
-        (ap (λ (l : List (ListName × ℕ)). slice_get l i) (sym started.listers)
-        ∙ map_get lister_of stations i s at)) where
-          by : (q : Passed Entry) × ((slice_get seats.listers i ≡ Some q)
-              × (named_by q ≡ lister_of s)) → lister_of s ≡ (book.name, i + 1)
+        by (get_map named_by seats.list_passes i (list_pass_of s)
+        (ap (λ (l : List (ListName × ℕ)). slice_get l i) (sym started.list_passes)
+        ∙ map_get list_pass_of world_inodes i s at)) where
+          by : (q : Passed Entry) × ((slice_get seats.list_passes i ≡ Some q)
+              × (named_by q ≡ list_pass_of s)) → list_pass_of s ≡ (book.name, i + 1)
           by q =
               sym q.1.1
               ∙ ap named_by (same_Some q.0 (fresh book.name (i + 1))
-              (sym q.1.0 ∙ listers.each i (slice_get_within seats.listers i q.0 q.1.0)))
+              (sym q.1.0 ∙ list_passes.each i (slice_get_within seats.list_passes i q.0 q.1.0)))
 
     -- the pass of the appended rules of inode i comes after those of the tasks
-    counter : (i : ℕ) (s : StationValue) → slice_get stations i ≡ Some s
+    counter : (i : ℕ) (s : WorldInodeValue) → slice_get world_inodes i ≡ Some s
         → s.rules ≡ fresh rules.appended.name (tasks + i)
     counter i s at =
-        let there : slice_get seats.counters i ≡ Some s.rules =
-        ap (λ (l : List (Passed RuleEntry)). slice_get l i) (sym started.counters)
-        ∙ map_get counter_of stations i s at in
+        let there : slice_get seats.rule_passes i ≡ Some s.rules =
+        ap (λ (l : List (Passed RuleEntry)). slice_get l i) (sym started.rule_passes)
+        ∙ map_get rule_pass_of world_inodes i s at in
         same_Some s.rules (fresh rules.appended.name (tasks + i))
-        (sym there ∙ counters.each i (slice_get_within seats.counters i s.rules there))
+        (sym there ∙ rule_passes.each i (slice_get_within seats.rule_passes i s.rules there))
 
-    is_station : (i : ℕ) (s : StationValue) → slice_get stations i ≡ Some s
-        → IsStation consts i s
-    is_station i s at =
-        let one = all_at (IsStarted settings tasks) stations i s started.each at in
+    is_world_inode : (i : ℕ) (s : WorldInodeValue) → slice_get world_inodes i ≡ Some s
+        → IsWorldInode consts i s
+    is_world_inode i s at =
+        let one = all_at (IsStarted settings tasks) world_inodes i s started.each at in
         let listed = lister i s at in
         let counted = counter i s at in
         record {
-          site = map_get site_of stations i s at;
+          inode_consts = map_get inode_consts_of world_inodes i s at;
           settings = one.settings;
           place = all_at (λ (p : ℕ). p < length supers) seats.places i s.place places
               (ap (λ (l : List ℕ). slice_get l i) (sym started.places)
-              ∙ map_get place_of stations i s at);
+              ∙ map_get place_of world_inodes i s at);
           callers = one.callers;
           book = ap (λ (x : ListName × ℕ). x.0) listed;
           booked = ap (λ (x : ListName × ℕ). x.1) listed;
           rules_name = ap (λ (q : Passed RuleEntry). q.name) counted;
           rules_number = ap (λ (q : Passed RuleEntry). q.number) counted;
           rules_mine = ap (λ (q : Passed RuleEntry). q.mine) counted;
-          rise = subst (λ (l : List Event). StationRules (length rules.base) l s.rules.seen)
+          rise = subst (λ (l : List Event). ScriptFileRules (length rules.base) l s.rules.seen)
               (sym one.list)
               (law_rise_at_first (length rules.base) (birth_of s.cell.inode.birth) s.rules.seen
               refl);
         }
 
     -- the inodes are those of the constants
-    pub are_stations : AreStations consts stations
-    are_stations = record {
-      even = sym (length-map stations site_of);
-      each = is_station;
+    pub are_world_inodes : AreWorldInodes consts world_inodes
+    are_world_inodes = record {
+      even = sym (length-map world_inodes inode_consts_of);
+      each = is_world_inode;
     }
 
   pub is_book : book.list ≡ boot ∷ [] → book.callers ≡ 1 + length inodes + tasks
@@ -180,18 +183,18 @@ module _ (settings : Settings) (boot : Entry) (inodes : List (List ℕ × Image)
   -- ---- the tasks
 
   module _ (passes : List PassesValue) (rows : List (List (Passed Event)))
-      (signallers : List (Passed Event)) (listers : List (Passed Entry))
+      (signal_passes : List (Passed Event)) (list_passes : List (Passed Entry))
       (appenders : List (Passed RuleEntry))
       (rows_is : map (λ (p : PassesValue). p.inodes) passes ≡ rows)
-      (sems_is : map (λ (p : PassesValue). p.sems) passes ≡ signallers)
-      (book_is : map (λ (p : PassesValue). p.book) passes ≡ listers)
+      (sems_is : map (λ (p : PassesValue). p.sems) passes ≡ signal_passes)
+      (book_is : map (λ (p : PassesValue). p.book) passes ≡ list_passes)
       (rules_is : map (λ (p : PassesValue). p.rules) passes ≡ appenders)
-      (are_rows : AreRows stations tasks rows)
-      (signal : AreFresh sems.name (λ k. k + 1) tasks signallers)
-      (listed : AreFresh book.name (λ k. length inodes + k + 1) tasks listers)
+      (are_rows : AreRows world_inodes tasks rows)
+      (signal : AreFresh sems.name (λ k. k + 1) tasks signal_passes)
+      (listed : AreFresh book.name (λ k. length inodes + k + 1) tasks list_passes)
       (append : AreFresh rules.appended.name (λ k. k) tasks appenders) where
     row : (k : ℕ) (p : PassesValue) → slice_get passes k ≡ Some p
-        → p.inodes ≡ row_of stations k
+        → p.inodes ≡ row_of world_inodes k
     row k p at =
         are_rows.1 k p.inodes
         (ap (λ (l : List (List (Passed Event))). slice_get l k) (sym rows_is)
@@ -210,11 +213,11 @@ module _ (settings : Settings) (boot : Entry) (inodes : List (List ℕ × Image)
 
     sem : (k : ℕ) (p : PassesValue) → slice_get passes k ≡ Some p
         → p.sems ≡ fresh sems.name (k + 1)
-    sem = its (λ (p : PassesValue). p.sems) signallers sems.name (λ k. k + 1) sems_is signal
+    sem = its (λ (p : PassesValue). p.sems) signal_passes sems.name (λ k. k + 1) sems_is signal
 
     of_book : (k : ℕ) (p : PassesValue) → slice_get passes k ≡ Some p
         → p.book ≡ fresh book.name (length inodes + k + 1)
-    of_book = its (λ (p : PassesValue). p.book) listers book.name (λ k. length inodes + k + 1)
+    of_book = its (λ (p : PassesValue). p.book) list_passes book.name (λ k. length inodes + k + 1)
         book_is listed
 
     rule : (k : ℕ) (p : PassesValue) → slice_get passes k ≡ Some p
@@ -223,27 +226,29 @@ module _ (settings : Settings) (boot : Entry) (inodes : List (List ℕ × Image)
         append
 
     -- each pass of a row is one of its inode
-    of_inode : (k : ℕ) (p : PassesValue) → slice_get passes k ≡ Some p → (i : ℕ) (s : Site)
-        → (q : Passed Event) → slice_get (map site_of stations) i ≡ Some s
+    of_inode : (k : ℕ) (p : PassesValue) → slice_get passes k ≡ Some p → (i : ℕ) (s : InodeConsts)
+        → (q : Passed Event) → slice_get (map inode_consts_of world_inodes) i ≡ Some s
         → slice_get p.inodes i ≡ Some q → (q.name ≡ s.journal) × (q.number ≡ k + 1)
-    of_inode k p at i s q site there = by (get_map site_of stations i s site) where
-      by : (t : StationValue) × ((slice_get stations i ≡ Some t) × (site_of t ≡ s))
-          → (q.name ≡ s.journal) × (q.number ≡ k + 1)
-      by t =
-          let is : q ≡ pass_of t.0 k =
-          same_Some q (pass_of t.0 k)
-          (sym there ∙ ap (λ (l : List (Passed Event)). slice_get l i) (row k p at)
-          ∙ map_get (λ (x : StationValue). pass_of x k) stations i t.0 t.1.0) in (
-            ap (λ (x : Passed Event). x.name) is ∙ ap (λ (x : Site). x.journal) t.1.1,
-            ap (λ (x : Passed Event). x.number) is,
-          )
+    of_inode k p at i s q inode_consts there =
+        by (get_map inode_consts_of world_inodes i s inode_consts) where
+          by : (t : WorldInodeValue)
+              × ((slice_get world_inodes i ≡ Some t) × (inode_consts_of t ≡ s))
+              → (q.name ≡ s.journal) × (q.number ≡ k + 1)
+          by t =
+              let is : q ≡ pass_of t.0 k =
+              same_Some q (pass_of t.0 k)
+              (sym there ∙ ap (λ (l : List (Passed Event)). slice_get l i) (row k p at)
+              ∙ map_get (λ (x : WorldInodeValue). pass_of x k) world_inodes i t.0 t.1.0) in (
+                ap (λ (x : Passed Event). x.name) is ∙ ap (λ (x : InodeConsts). x.journal) t.1.1,
+                ap (λ (x : Passed Event). x.number) is,
+              )
 
     are_passes : (k : ℕ) (p : PassesValue) → slice_get passes k ≡ Some p
         → ArePassesOf consts k p
     are_passes k p at = record {
       even = ap length (row k p at)
-          ∙ length-map stations (λ (s : StationValue). pass_of s k)
-          ∙ sym (length-map stations site_of);
+          ∙ length-map world_inodes (λ (s : WorldInodeValue). pass_of s k)
+          ∙ sym (length-map world_inodes inode_consts_of);
       inodes = of_inode k p at;
       sems = (
         ap (λ (q : Passed Event). q.name) (sem k p at),
@@ -258,7 +263,7 @@ module _ (settings : Settings) (boot : Entry) (inodes : List (List ℕ × Image)
         ap (λ (q : Passed RuleEntry). q.number) (rule k p at),
       );
     } where
-      after : (k : ℕ) → length inodes + k + 1 ≡ 1 + length (map site_of stations) + k
+      after : (k : ℕ) → length inodes + k + 1 ≡ 1 + length (map inode_consts_of world_inodes) + k
       after k = omega (arith, even)
 
     are_unused : (k : ℕ) (p : PassesValue) → slice_get passes k ≡ Some p → AreUnused p
@@ -266,8 +271,8 @@ module _ (settings : Settings) (boot : Entry) (inodes : List (List ℕ × Image)
       inodes = subst (λ (r : List (Passed Event)). All (λ (q : Passed Event). q.mine ≡ []) r)
           (sym (row k p at))
           (All-map (λ (q : Passed Event). q.mine ≡ [])
-          (λ (s : StationValue). pass_of s k) stations
-          (all_by_get (λ (s : StationValue). ◌≡◌ {A = List (ℕ × Event)} [] []) stations
+          (λ (s : WorldInodeValue). pass_of s k) world_inodes
+          (all_by_get (λ (s : WorldInodeValue). ◌≡◌ {A = List (ℕ × Event)} [] []) world_inodes
           (λ j s here. refl)));
       sems = ap (λ (q : Passed Event). q.mine) (sem k p at);
       book = ap (λ (q : Passed Entry). q.mine) (of_book k p at);

@@ -7,7 +7,7 @@ use Rattle.policy_rules.specs.RuleValue.{RuleValue}
 use Rattle.policy_rules.specs.declared.access.Super.{Super}
 use Rattle.world_close.specs.model.Scene.{Program}
 use Rattle.world_close.specs.model.Turns.{State, start_of}
-use Rattle.world_close.specs.worlds.WorldConsts.{Site, WorldConsts, scene_of}
+use Rattle.world_close.specs.worlds.WorldConsts.{InodeConsts, WorldConsts, scene_of}
 use Rattle.world_close.specs.worlds.Tasks.{ArePassesOf, AreUnused, PassesValue}
 
 -- the constants are those of a script with these settings, this first entry of the list, these
@@ -17,9 +17,9 @@ pub record AreConstsOf (config : Settings) (first : Entry) (inodes : List (List 
     (consts : WorldConsts) : Type 0 where
   pub settings : consts.settings ≡ config
   pub boot : consts.boot ≡ first
-  pub files : map (λ (s : Site). (s.path, s.birth)) consts.sites ≡ inodes
+  pub files : map (λ (s : InodeConsts). (s.path, s.birth)) consts.each_inode ≡ inodes
   pub supers : consts.supers ≡ systems
-  pub places : map (λ (s : Site). s.place) consts.sites ≡ numbers
+  pub places : map (λ (s : InodeConsts). s.place) consts.each_inode ≡ numbers
   pub base : consts.base ≡ policy
   pub tasks : consts.tasks ≡ count
 

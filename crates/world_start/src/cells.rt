@@ -18,11 +18,11 @@ pub(crate) struct Cells {
     pub(crate) sems: SemaphoreCell,
     pub(crate) rules: PolicyCell,
     // The passes of the inodes: of the measurement list, and of the rules
-    pub(crate) listers: Vec<Pass<Entry>>,
-    pub(crate) counters: Vec<Pass<RuleEntry>>,
+    pub(crate) list_passes: Vec<Pass<Entry>>,
+    pub(crate) rule_passes: Vec<Pass<RuleEntry>>,
     // The passes of the tasks: of the semaphores, of the measurement list, and of the rules
-    pub(crate) task_signallers: Vec<Pass<Event>>,
-    pub(crate) task_listers: Vec<Pass<Entry>>,
+    pub(crate) task_signal_passes: Vec<Pass<Event>>,
+    pub(crate) task_list_passes: Vec<Pass<Entry>>,
     pub(crate) task_appenders: Vec<Pass<RuleEntry>>,
     // The spare pass of the rules: one if there is neither a task nor an inode, else none
     pub(crate) spares: Vec<Pass<RuleEntry>>,
@@ -41,8 +41,8 @@ fn appenders_of(tasks: u32, count: u32) -> u32
 #[derive(Drop)]
 struct Listed {
     book: Book,
-    listers: Vec<Pass<Entry>>,
-    task_listers: Vec<Pass<Entry>>,
+    list_passes: Vec<Pass<Entry>>,
+    task_list_passes: Vec<Pass<Entry>>,
 }
 
 // Starts the measurement list for this many inodes and tasks.
@@ -50,17 +50,17 @@ fn start_book(alloc: Global, boot: Entry, count: u32, tasks: u32) -> Result<List
     requires { count + tasks + 1 < 2 ^ 32 }
     ensures book { IfOk result (λ c. c.book.list ≡ boot ∷ []) }
     ensures listed { IfOk result (λ c. c.book.callers ≡ 1 + count + tasks) }
-    ensures listers { IfOk result (λ c. AreFresh c.book.name (λ k. k + 1) count
-        c.listers.items) }
-    ensures task_listers { IfOk result (λ c. AreFresh c.book.name (λ k. count + k + 1) tasks
-        c.task_listers.items) }
+    ensures list_passes { IfOk result (λ c. AreFresh c.book.name (λ k. k + 1) count
+        c.list_passes.items) }
+    ensures task_list_passes { IfOk result (λ c. AreFresh c.book.name (λ k. count + k + 1) tasks
+        c.task_list_passes.items) }
 {
-    let (book, mut listers) = Book::start(alloc, 1 + count + tasks, boot)?;
-    let task_listers = listers.split_off(count as usize)?;
+    let (book, mut list_passes) = Book::start(alloc, 1 + count + tasks, boot)?;
+    let task_list_passes = list_passes.split_off(count as usize)?;
     Ok(Listed {
         book,
-        listers,
-        task_listers,
+        list_passes,
+        task_list_passes,
     })
 }
 
@@ -68,7 +68,7 @@ fn start_book(alloc: Global, boot: Entry, count: u32, tasks: u32) -> Result<List
 #[derive(Drop)]
 struct Ruled {
     rules: PolicyCell,
-    counters: Vec<Pass<RuleEntry>>,
+    rule_passes: Vec<Pass<RuleEntry>>,
     task_appenders: Vec<Pass<RuleEntry>>,
     spares: Vec<Pass<RuleEntry>>,
 }
@@ -80,8 +80,8 @@ fn start_rules(alloc: Global, rules: Policy, count: u32, tasks: u32) -> Result<R
     ensures added { IfOk result (λ c. c.rules.appended.list ≡ []) }
     ensures numbers { IfOk result (λ c. c.rules.appended.numbers ≡ []) }
     ensures appended { IfOk result (λ c. c.rules.appended.callers ≡ max 1 (tasks + count)) }
-    ensures counters { IfOk result (λ c. AreFresh c.rules.appended.name (λ k. tasks + k) count
-        c.counters.items) }
+    ensures rule_passes { IfOk result (λ c. AreFresh c.rules.appended.name (λ k. tasks + k) count
+        c.rule_passes.items) }
     ensures task_appenders { IfOk result (λ c. AreFresh c.rules.appended.name (λ k. k) tasks
         c.task_appenders.items) }
     ensures spares { IfOk result (λ c. AreFresh c.rules.appended.name (λ k. tasks + count + k)
@@ -89,11 +89,11 @@ fn start_rules(alloc: Global, rules: Policy, count: u32, tasks: u32) -> Result<R
 {
     let appenders = appenders_of(tasks, count);
     let (rules, mut task_appenders) = PolicyCell::start(alloc, rules, appenders)?;
-    let mut counters = task_appenders.split_off(tasks as usize)?;
-    let spares = counters.split_off(count as usize)?;
+    let mut rule_passes = task_appenders.split_off(tasks as usize)?;
+    let spares = rule_passes.split_off(count as usize)?;
     Ok(Ruled {
         rules,
-        counters,
+        rule_passes,
         task_appenders,
         spares,
     })
@@ -116,30 +116,30 @@ pub(crate) fn start_cells(
     ensures added { IfOk result (λ c. c.rules.appended.list ≡ []) }
     ensures numbers { IfOk result (λ c. c.rules.appended.numbers ≡ []) }
     ensures appended { IfOk result (λ c. c.rules.appended.callers ≡ max 1 (tasks + count)) }
-    ensures listers { IfOk result (λ c. AreFresh c.book.name (λ k. k + 1) count
-        c.listers.items) }
-    ensures counters { IfOk result (λ c. AreFresh c.rules.appended.name (λ k. tasks + k) count
-        c.counters.items) }
-    ensures task_signallers { IfOk result (λ c. AreFresh c.sems.name (λ k. k + 1) tasks
-        c.task_signallers.items) }
-    ensures task_listers { IfOk result (λ c. AreFresh c.book.name (λ k. count + k + 1) tasks
-        c.task_listers.items) }
+    ensures list_passes { IfOk result (λ c. AreFresh c.book.name (λ k. k + 1) count
+        c.list_passes.items) }
+    ensures rule_passes { IfOk result (λ c. AreFresh c.rules.appended.name (λ k. tasks + k) count
+        c.rule_passes.items) }
+    ensures task_signal_passes { IfOk result (λ c. AreFresh c.sems.name (λ k. k + 1) tasks
+        c.task_signal_passes.items) }
+    ensures task_list_passes { IfOk result (λ c. AreFresh c.book.name (λ k. count + k + 1) tasks
+        c.task_list_passes.items) }
     ensures task_appenders { IfOk result (λ c. AreFresh c.rules.appended.name (λ k. k) tasks
         c.task_appenders.items) }
     ensures spares { IfOk result (λ c. AreFresh c.rules.appended.name (λ k. tasks + count + k)
         (max 1 (tasks + count) - (tasks + count)) c.spares.items) }
 {
     let listed = start_book(alloc, boot, count, tasks)?;
-    let (sems, task_signallers) = SemaphoreCell::start(alloc, tasks + 1)?;
+    let (sems, task_signal_passes) = SemaphoreCell::start(alloc, tasks + 1)?;
     let ruled = start_rules(alloc, rules, count, tasks)?;
     Ok(Cells {
         book: listed.book,
         sems,
         rules: ruled.rules,
-        listers: listed.listers,
-        counters: ruled.counters,
-        task_signallers,
-        task_listers: listed.task_listers,
+        list_passes: listed.list_passes,
+        rule_passes: ruled.rule_passes,
+        task_signal_passes,
+        task_list_passes: listed.task_list_passes,
         task_appenders: ruled.task_appenders,
         spares: ruled.spares,
     })

@@ -6,6 +6,6 @@ mod gathering;
 mod lists;
 mod rows;
 mod seats;
-mod stations;
+mod world_inodes;
 
 pub use lists::{Start, start_lists};

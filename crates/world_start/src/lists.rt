@@ -3,7 +3,7 @@ ghost use Rattle.grow_list.specs.Shown.{Passed};
 ghost use Rattle.ima_templates.specs.declared.entry.Entry.{Entry as AnyEntry};
 ghost use Rattle.world_close.specs.worlds.Tasks.{PassesValue};
 ghost use Rattle.world_close.specs.worlds.World.{AreRulesOf, AreSignalsOf, IsBookOf};
-ghost use Rattle.world_close.specs.Closed.{AreSpares, AreStations};
+ghost use Rattle.world_close.specs.Closed.{AreSpares, AreWorldInodes};
 ghost use Rattle.world_close.specs.Parts.{consts_of_parts, state_of_parts};
 ghost use Rattle.world_start.specs.Start.{AreConstsOf, AreFirstPasses, Begins};
 ghost use Rattle.world_start.specs.Started.{AreRows, AreStarted, IsFile};
@@ -11,7 +11,7 @@ ghost use Rattle.world_start.specs.Started.{AreRows, AreStarted, IsFile};
 use crate::cells::start_cells;
 use crate::gathering::{Columns, gather};
 use crate::seats::Seats;
-use crate::stations::start_stations;
+use crate::world_inodes::start_world_inodes;
 use grow_list::Pass;
 use ima_templates::Entry;
 use inode_events::{Event, Image, Settings};
@@ -19,7 +19,7 @@ use policy_cell::RuleEntry;
 use policy_rules::{Policy, Super};
 use std::alloc::{AllocError as OutOfMemory, Global};
 use world_close::Parts;
-use world_close::worlds::{Passes, Station};
+use world_close::worlds::{Passes, WorldInode};
 use xattr_store::Bytes;
 
 /// What a world starts with: its parts, and the passes of its tasks, in order.
@@ -41,34 +41,34 @@ fn start_inodes(
     tasks: u32,
     inodes: Vec<(Bytes, Image)>,
     seats: Seats,
-    signallers: Vec<Pass<Event>>,
-    listers: Vec<Pass<Entry>>,
+    signal_passes: Vec<Pass<Event>>,
+    list_passes: Vec<Pass<Entry>>,
     appenders: Vec<Pass<RuleEntry>>,
-) -> Result<(Vec<Station>, Vec<Passes>), OutOfMemory>
+) -> Result<(Vec<WorldInode>, Vec<Passes>), OutOfMemory>
     requires tasks { tasks + 1 < 2 ^ 32 }
     requires files { All IsFile inodes.items }
     requires places { length seats.places ≡ length inodes.items }
-    requires listers { length seats.listers ≡ length inodes.items }
-    requires counters { length seats.counters ≡ length inodes.items }
-    requires unused { All (λ (q : Passed AnyEntry). q.mine ≡ []) seats.listers }
-    requires signallers { length signallers.items ≡ tasks }
-    requires task_listers { length listers.items ≡ tasks }
+    requires list_passes { length seats.list_passes ≡ length inodes.items }
+    requires rule_passes { length seats.rule_passes ≡ length inodes.items }
+    requires unused { All (λ (q : Passed AnyEntry). q.mine ≡ []) seats.list_passes }
+    requires signal_passes { length signal_passes.items ≡ tasks }
+    requires task_list_passes { length list_passes.items ≡ tasks }
     requires appenders { length appenders.items ≡ tasks }
-    ensures stations { IfOk result (λ r. AreStarted settings.now tasks inodes.items seats
+    ensures world_inodes { IfOk result (λ r. AreStarted settings.now tasks inodes.items seats
         r.0.items) }
     ensures rows { IfOk result (λ r. AreRows r.0.items tasks
         (map (λ (p : PassesValue). p.inodes) r.1.items)) }
     ensures sems { IfOk result (λ r. map (λ (p : PassesValue). p.sems) r.1.items
-        ≡ signallers.items) }
+        ≡ signal_passes.items) }
     ensures book { IfOk result (λ r. map (λ (p : PassesValue). p.book) r.1.items
-        ≡ listers.items) }
+        ≡ list_passes.items) }
     ensures rules { IfOk result (λ r. map (λ (p : PassesValue). p.rules) r.1.items
         ≡ appenders.items) }
 {
-    let (stations, rows) = start_stations(alloc, settings, tasks, inodes, seats)?;
-    let columns = Columns::new(rows, signallers, listers, appenders);
+    let (world_inodes, rows) = start_world_inodes(alloc, settings, tasks, inodes, seats)?;
+    let columns = Columns::new(rows, signal_passes, list_passes, appenders);
     let passes = gather(alloc, columns)?;
-    Ok((stations, passes))
+    Ok((world_inodes, passes))
 }
 
 /// Starts the lists of a world with these files, each on the file system of the number at its
@@ -89,8 +89,8 @@ pub fn start_lists(
     requires callers { length inodes.items + tasks + 1 < 2 ^ 32 }
     ensures consts { IfOk result (λ r. AreConstsOf settings boot inodes.items supers.items
         places.items rules tasks (consts_of_parts r.parts)) }
-    ensures stations { IfOk result (λ r. AreStations (consts_of_parts r.parts)
-        r.parts.stations.items) }
+    ensures world_inodes { IfOk result (λ r. AreWorldInodes (consts_of_parts r.parts)
+        r.parts.world_inodes.items) }
     ensures book { IfOk result (λ r. IsBookOf (consts_of_parts r.parts) r.parts.book) }
     ensures sems { IfOk result (λ r. AreSignalsOf (consts_of_parts r.parts) r.parts.sems) }
     ensures rules { IfOk result (λ r. AreRulesOf (consts_of_parts r.parts) r.parts.rules) }
@@ -100,19 +100,19 @@ pub fn start_lists(
 {
     let count = inodes.len() as u32;
     let cells = start_cells(alloc, boot, rules, count, tasks)?;
-    let seats = Seats::new(places, cells.listers, cells.counters);
-    let (stations, passes) = start_inodes(
+    let seats = Seats::new(places, cells.list_passes, cells.rule_passes);
+    let (world_inodes, passes) = start_inodes(
         alloc,
         &settings,
         tasks,
         inodes,
         seats,
-        cells.task_signallers,
-        cells.task_listers,
+        cells.task_signal_passes,
+        cells.task_list_passes,
         cells.task_appenders,
     )?;
     let parts = Parts {
-        stations,
+        world_inodes,
         book: cells.book,
         sems: cells.sems,
         rules: cells.rules,

@@ -9,7 +9,7 @@ use inode_events::Event;
 use std::alloc::AllocError as OutOfMemory;
 use std::collections::VecDeque;
 use std::marker::Model;
-use world_close::worlds::Station;
+use world_close::worlds::WorldInode;
 
 // The passes of one task: one for each inode's journal, in order.
 #[derive(Drop)]
@@ -62,16 +62,16 @@ fn give(rows: &mut Vec<Row>, k: usize, pass: Pass<Event>) -> Result<(), OutOfMem
 // Gives each row its pass of the inode's journal.
 pub(crate) fn share_out(
     rows: &mut Vec<Row>,
-    station: &Station,
+    world_inode: &WorldInode,
     column: VecDeque<Pass<Event>>,
 ) -> Result<(), OutOfMemory>
     requires even { length column.items ≡ length rows.old.items }
     requires column { (k : ℕ) → k < length column.items
-        → slice_get column.items k ≡ Some (pass_of station.now k) }
+        → slice_get column.items k ≡ Some (pass_of world_inode.now k) }
     ensures count { OnOk result (length rows.new.items ≡ length rows.old.items) }
     ensures given { OnOk result ((k : ℕ) (row : List (Passed AnyEvent))
         → slice_get rows.old.items k ≡ Some row
-        → slice_get rows.new.items k ≡ Some (row ++ pass_of station.now k ∷ [])) }
+        → slice_get rows.new.items k ≡ Some (row ++ pass_of world_inode.now k ∷ [])) }
 {
     let mut column = column;
     for k in 0..rows.len() {

@@ -12,8 +12,8 @@ use std::marker::Model;
 #[derive(Drop)]
 pub(crate) struct Seats {
     places: VecDeque<u32>,
-    listers: VecDeque<Pass<Entry>>,
-    counters: VecDeque<Pass<RuleEntry>>,
+    list_passes: VecDeque<Pass<Entry>>,
+    rule_passes: VecDeque<Pass<RuleEntry>>,
 }
 
 impl Model for Seats {
@@ -23,8 +23,8 @@ impl Model for Seats {
 
     ghost view = { λ s. record {
       places = s.places.items;
-      listers = s.listers.items;
-      counters = s.counters.items;
+      list_passes = s.list_passes.items;
+      rule_passes = s.rule_passes.items;
     } };
 }
 
@@ -39,36 +39,36 @@ pub(crate) struct Seat {
 impl Seats {
     pub(crate) fn new(
         places: Vec<u32>,
-        listers: Vec<Pass<Entry>>,
-        counters: Vec<Pass<RuleEntry>>,
+        list_passes: Vec<Pass<Entry>>,
+        rule_passes: Vec<Pass<RuleEntry>>,
     ) -> Seats
         ensures places { result.places ≡ places.items }
-        ensures listers { result.listers ≡ listers.items }
-        ensures counters { result.counters ≡ counters.items }
+        ensures list_passes { result.list_passes ≡ list_passes.items }
+        ensures rule_passes { result.rule_passes ≡ rule_passes.items }
     {
         Seats {
             places: VecDeque::from(places),
-            listers: VecDeque::from(listers),
-            counters: VecDeque::from(counters),
+            list_passes: VecDeque::from(list_passes),
+            rule_passes: VecDeque::from(rule_passes),
         }
     }
 
     // Takes the seat of the next inode.
     pub(crate) fn next(&mut self) -> Seat
         requires places { 0 < length self.old.places }
-        requires listers { 0 < length self.old.listers }
-        requires counters { 0 < length self.old.counters }
+        requires list_passes { 0 < length self.old.list_passes }
+        requires rule_passes { 0 < length self.old.rule_passes }
         ensures places { self.old.places ≡ result.place ∷ self.new.places }
-        ensures listers { self.old.listers ≡ result.listed ∷ self.new.listers }
-        ensures counters { self.old.counters ≡ result.counted ∷ self.new.counters }
+        ensures list_passes { self.old.list_passes ≡ result.listed ∷ self.new.list_passes }
+        ensures rule_passes { self.old.rule_passes ≡ result.counted ∷ self.new.rule_passes }
     {
         let Some(place) = self.places.pop_front() else {
             unreachable!()
         };
-        let Some(listed) = self.listers.pop_front() else {
+        let Some(listed) = self.list_passes.pop_front() else {
             unreachable!()
         };
-        let Some(counted) = self.counters.pop_front() else {
+        let Some(counted) = self.rule_passes.pop_front() else {
             unreachable!()
         };
         Seat {

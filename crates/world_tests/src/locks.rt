@@ -87,7 +87,7 @@ fn files(rt: &impl Abort, alloc: Global) -> Result<(Vec<(Bytes, Image)>, Vec<u32
 // The parts of a world with two inodes.
 fn parts(rt: &impl Abort, alloc: Global) -> Result<Parts, OutOfMemory>
     ensures keep { IfOk result (λ p. KeepConsts (consts_of_parts p) p) }
-    ensures two { IfOk result (λ p. length p.stations.items ≡ 2) }
+    ensures two { IfOk result (λ p. length p.world_inodes.items ≡ 2) }
 {
     let (files, places) = files(rt, alloc)?;
     let mut supers = Vec::new(alloc);
@@ -128,7 +128,7 @@ fn hold_both<N: Name, R: Threads + Wait + Sync>(
     parts: Parts,
 ) -> Result<(Parts, bool), OutOfMemory>
     requires keep { KeepConsts N.consts parts }
-    requires two { length N.consts.sites ≡ 2 }
+    requires two { length N.consts.each_inode ≡ 2 }
 {
     let locks = Locks::<N>::new(parts)?;
     let shared = &locks;
@@ -138,7 +138,7 @@ fn hold_both<N: Name, R: Threads + Wait + Sync>(
     join(
         rt,
         ||
-            requires { length N.consts.sites ≡ 2 }
+            requires { length N.consts.each_inode ≡ 2 }
         {
             shared.hold(rt, 0, || {
                 first.store(true, Ordering::SeqCst);
@@ -146,7 +146,7 @@ fn hold_both<N: Name, R: Threads + Wait + Sync>(
             })
         },
         ||
-            requires { length N.consts.sites ≡ 2 }
+            requires { length N.consts.each_inode ≡ 2 }
         {
             sees(&first);
             shared.hold(rt, 1, || second.store(true, Ordering::SeqCst))
@@ -162,6 +162,6 @@ fn two_inodes_are_held_at_once(rt: HostRuntime) -> Result<(), Fail> {
     let parts = parts(&rt, rt.alloc())?;
     let (parts, saw) = hold_both::<Brand, _>(&rt, parts)?;
     assert!(rt; saw);
-    assert_eq!(rt; parts.stations.len(), 2);
+    assert_eq!(rt; parts.world_inodes.len(), 2);
     Ok(())
 }

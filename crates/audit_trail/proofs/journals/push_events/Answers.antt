@@ -2,7 +2,7 @@ use Rattle.std.proofs.Common.{◌≡◌, ℕ, ◌+◌, List, [], ◌++◌, lengt
 use Rattle.std.proofs.lemmas.List.{append-nil}
 use Rattle.report_text.specs.Words.{Line}
 use Rattle.world_model.specs.model.events.Inode.{Inode}
-use Rattle.world_model.specs.model.events.Past.{past}
+use Rattle.world_model.specs.model.events.NewestFirst.{newest_first}
 use Rattle.world_model.specs.model.events.declared.told.Event.{Event}
 use Rattle.world_model.specs.model.events.forms.Words.{text_of}
 use Rattle.audit_trail.proofs.Passing.{journal_next}
@@ -17,7 +17,8 @@ use Rattle.audit_trail.proofs.journals.push_events.Goals as goal
 pub loop-place-init : goal.loop-place-init
 loop-place-init c =
     let none = past_none c.args.journal.now in
-    let lines : site_lines c.args.context.now c.args.site.now (past (take 0 c.args.journal.now))
+    let lines : site_lines c.args.context.now c.args.site.now
+    (newest_first (take 0 c.args.journal.now))
     ≡ [] = ap (site_lines c.args.context.now c.args.site.now) none in
     record {
       walk = subst (λ (p : List Event). IsWalk (inode_at c.args.context.now c.args.site.now) p
@@ -35,14 +36,14 @@ pub advance-requires-clause-form : goal.advance-requires-clause-form
 advance-requires-clause-form c =
     let e : Event = c.index-journal-place.result in
     well_formed (inode_at c.args.context.now c.args.site.now)
-    (past (take c.loop-place.place c.args.journal.now)) e.who e.deed e.told
+    (newest_first (take c.loop-place.place c.args.journal.now)) e.who e.deed e.told
     (follows_there (inode_at c.args.context.now c.args.site.now) c.args.journal.now
     c.loop-place.place e c.requires.legal c.loop-place-test.true c.index-journal-place.is)
 
 pub advance-requires-clause-cached : goal.advance-requires-clause-cached
 advance-requires-clause-cached c =
     (c.in_ok-count.ensures.walk (inode_at c.args.context.now c.args.site.now)
-    (past (take c.loop-place.place c.args.journal.now)) c.loop-place.invariant.walk).cached
+    (newest_first (take c.loop-place.place c.args.journal.now)) c.loop-place.invariant.walk).cached
 
 pub loop-place-preserved : goal.loop-place-preserved
 loop-place-preserved c =
@@ -57,13 +58,13 @@ loop-place-preserved c =
     c.loop-place.place c.index-journal-place.result c.requires.legal c.loop-place-test.true
     c.index-journal-place.is in
     let h : IsWalk (inode_at c.args.context.now c.args.site.now)
-    (past (take c.loop-place.place c.args.journal.now)) c.push_event.new.walk =
+    (newest_first (take c.loop-place.place c.args.journal.now)) c.push_event.new.walk =
     c.in_ok-count.ensures.walk (inode_at c.args.context.now c.args.site.now)
-    (past (take c.loop-place.place c.args.journal.now)) c.loop-place.invariant.walk in
+    (newest_first (take c.loop-place.place c.args.journal.now)) c.loop-place.invariant.walk in
     let lines : site_lines c.args.context.now c.args.site.now
-    (past (take (c.loop-place.place + 1) c.args.journal.now))
+    (newest_first (take (c.loop-place.place + 1) c.args.journal.now))
     ≡ site_lines c.args.context.now c.args.site.now
-    (past (take c.loop-place.place c.args.journal.now))
+    (newest_first (take c.loop-place.place c.args.journal.now))
     ++ event_lines c.args.context.now c.args.site.now c.loop-place.place c.loop-place.walk
     c.index-journal-place.result =
     journal_next c.args.context.now c.args.site.now c.args.journal.now c.loop-place.place
@@ -72,7 +73,8 @@ loop-place-preserved c =
     record {
       walk = subst (λ (p : List Event). IsWalk (inode_at c.args.context.now c.args.site.now) p
           c.advance.new.self) (sym next)
-          (walk_on i (past (take k j)) w c.advance.new.self e follows h c.in_ok-advance.ensures);
+          (walk_on i (newest_first (take k j)) w c.advance.new.self e follows h
+          c.in_ok-advance.ensures);
       text = texts_join c.args.out.now.items c.loop-place.out.items c.push_event.new.out.items _ _
           c.loop-place.invariant.text c.in_ok-count.ensures.text
           ∙ ap (λ (l : List Line). c.args.out.now.items ++ text_of l) (sym lines);

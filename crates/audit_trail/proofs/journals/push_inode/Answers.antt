@@ -4,12 +4,12 @@ use Rattle.report_text.specs.Words.{Line}
 use Rattle.script_scene.specs.Scene.{fs_of}
 use Rattle.world_model.specs.model.events.EndedInode.{EndedInodeValue}
 use Rattle.world_model.specs.model.events.Legal.{Legal}
-use Rattle.world_model.specs.model.events.Past.{past}
+use Rattle.world_model.specs.model.events.NewestFirst.{newest_first}
 use Rattle.world_model.specs.model.events.declared.told.Event.{Event}
 use Rattle.world_model.specs.model.events.forms.Words.{text_of}
 use Rattle.audit_trail.proofs.Passing.{numbered, site_there}
 use Rattle.audit_trail.proofs.Placed.{placed_at}
-use Rattle.audit_trail.specs.Sites.{inode_at, station_at}
+use Rattle.audit_trail.specs.Sites.{inode_at, script_file_at}
 use Rattle.audit_trail.specs.declared.site.Site.{Site}
 use Rattle.audit_trail.proofs.journals.push_inode.Goals as goal
 
@@ -33,10 +33,10 @@ push_events-requires-clause-legal c =
     record { number = c.args.number; file = c.in-Some.file; system = c.in-Some-get.system } in
     let there = site_there c.args.context.now s c.args.number c.in-Some.ensures.lookup.3.0
     c.in-Some.ensures.lookup.1 c.in-Some-get.ensures.lookup.3.0 c.in-Some-get.ensures.lookup.1 in
-    subst (λ (j : List Event). Legal (inode_at c.args.context.now s) (past j))
+    subst (λ (j : List Event). Legal (inode_at c.args.context.now s) (newest_first j))
     (sym (c.as_slice-journal.ensures.value
     ∙ ap (λ (e : EndedInodeValue). e.journal) c.inode.view_is))
-    (c.requires.legal (station_at s) there)
+    (c.requires.legal (script_file_at s) there)
 
 pub returns-clause-text : goal.returns-clause-text
 returns-clause-text c =

@@ -4,7 +4,7 @@ use Rattle.std.specs.Prelude.{nat_lt}
 use Rattle.std.proofs.lemmas.Bool.{cases_Bool, ltb-false, ltb-true}
 use Rattle.std.proofs.lemmas.Option.{slice_get_past}
 use Rattle.std.proofs.lemmas.Result.{IfOk-weaker}
-use Rattle.script_scene.specs.Scene.{IsForFiles, fs_of, program_of, scene_of, station_of}
+use Rattle.script_scene.specs.Scene.{IsForFiles, fs_of, program_of, scene_of, script_file_of}
 use Rattle.world_model.specs.model.EndedValue.{EndedValue}
 use Rattle.world_model.specs.model.events.forms.Words.{text_of}
 use Rattle.world_model.specs.model.policy.declared.access.Super.{Super}
@@ -39,7 +39,7 @@ trail_by-requires-clause-legal c =
     let for_files : IsForFiles c.args.script.now = c.keeps.ensures.template in
     run_legal (scene_of c.args.script.now for_files) c.args.script.now.ending c.args.ended.now
     (c.requires for_files) c.in_ok-settings.settings (c.in_ok-settings.ensures for_files) _
-    (λ i. map (station_of ((c.as_slice-supers.ensures.value
+    (λ i. map (script_file_of ((c.as_slice-supers.ensures.value
     ∙ (λ k. (c.script.view_is k).supers)) i))
     ((c.as_slice-files.ensures.value ∙ (λ k. (c.script.view_is k).files)) i)) _
     (c.as_slice-inodes.ensures.value ∙ ap (λ (e : EndedValue). e.inodes) c.ended.view_is)
@@ -61,5 +61,5 @@ returns c =
     ∙ (λ i. (c.script.view_is i).rules ++ rules_in (appended i)) in
     IfOk-weaker c.trail_by.result _ _
     (λ text h for_files. h ∙ (λ i. text_of (trail_lines (all_lines (map program_of (tasks i))
-    (rules i) (c.in_ok-settings.ensures for_files i) (map (station_of (supers i)) (files i)) 0
+    (rules i) (c.in_ok-settings.ensures for_files i) (map (script_file_of (supers i)) (files i)) 0
     (inodes i))))) c.trail_by.ensures

@@ -9,7 +9,7 @@ use Rattle.grow_list.proofs.list.take_back.Goals as goal
 pub loop-pass-preserved : goal.loop-pass-preserved
 loop-pass-preserved g c =
     let old = c.loop-pass.invariant in
-    let new = c.part.ensures.list in
+    let new = c.end_pass.ensures.list in
     let step = c.in-Some.ensures.steps in
     let pass = c.into_place.ensures.pass in
     let view = ap (λ m. m.0) old.moved.me in
@@ -27,7 +27,7 @@ loop-pass-preserved g c =
           (accounts (listed c.args.list.now.me.0) c.in-Some.pass (held c.into_place.result.me.0)
           pass.number pass.seen pass.mine
           (tallies_at c.loop-pass.list.me.0 c.args.list.now.me.0 (held c.into_place.result.me.0)
-          view c.part.ensures.tallies));
+          view c.end_pass.ensures.tallies));
     }
 
 pub returns-clause-accounts : goal.returns-clause-accounts

@@ -2,7 +2,7 @@
 use Rattle.std.proofs.Common.{◌∙◌, List, length, refl, subst, ap, arith}
 use Rattle.std.specs.List.{list_any}
 use Rattle.std.proofs.lemmas.List.{length-map}
-use Rattle.inode_events.specs.Past.{past}
+use Rattle.inode_events.specs.NewestFirst.{newest_first}
 use Rattle.inode_events.specs.Semaphores.{left}
 use Rattle.policy_cell.specs.declared.cell.RuleEntry.{RuleEntry}
 use Rattle.policy_rules.specs.RuleValue.{RuleValue}
@@ -11,25 +11,26 @@ use Rattle.world_model.specs.Tasks.{PassesValue, Tasked}
 use Rattle.world_model.specs.World.{WorldValue}
 use Rattle.world_close.specs.Closed.{AreSpares, ListsValue, WorldClosed}
 use Rattle.world_close.specs.Leaves.{are_stuck, may_append}
-use Rattle.task_core.proofs.Closing.{are_rules, are_signals, are_stations, base_is, ended_by, is_book, passes_are}
+use Rattle.task_core.proofs.Closing.{are_rules, are_signals, are_world_inodes, base_is, ended_by, is_book, passes_are}
 use Rattle.task_core.proofs.close.end.Goals as goal
 
--- the requires, in order: stations, book, sems, rules, spares, count, passes
+-- the requires, in order: inodes, book, sems, rules, spares, count, passes
 pub close_lists-requires : goal.close_lists-requires
 close_lists-requires g c =
     let w = c.world.inside.parts in
     let is = ap (λ (v : WorldValue). v.consts) c.world.view_is ∙ c.requires.0 in
     let parts = c.world.invariant.parts in (
-      are_stations w.settings w.stations.items w.supers.items w.book w.sems w.rules w.tasks
+      are_world_inodes w.settings w.world_inodes.items w.supers.items w.book w.sems w.rules w.tasks
           g.consts is parts,
       (
-        is_book w.settings w.stations.items w.supers.items w.book w.sems w.rules w.tasks g.consts
+        is_book w.settings w.world_inodes.items w.supers.items w.book w.sems w.rules
+            w.tasks g.consts
             is parts,
         (
-          are_signals w.settings w.stations.items w.supers.items w.book w.sems w.rules w.tasks
+          are_signals w.settings w.world_inodes.items w.supers.items w.book w.sems w.rules w.tasks
               g.consts is parts,
           (
-            are_rules w.settings w.stations.items w.supers.items w.book w.sems w.rules w.tasks
+            are_rules w.settings w.world_inodes.items w.supers.items w.book w.sems w.rules w.tasks
                 g.consts is parts,
             (
               subst (λ (f : WorldConsts). AreSpares f w.spares.items) is c.world.invariant.spares,
@@ -54,17 +55,18 @@ returns g c =
     let at = ap (λ (v : WorldValue). v.state) c.world.view_is in
     let own = ap (λ (l : ListsValue). l.rules) c.lists.view_is ∙ closed.rules in
     let force = c.rules-in_force.ensures.rules ∙ c.rules.ensures in
-    ended_by w.settings w.stations.items w.supers.items w.book w.sems w.rules w.tasks g.consts is
+    ended_by w.settings w.world_inodes.items w.supers.items w.book w.sems w.rules w.tasks
+    g.consts is
     c.world.invariant.parts tasks c.args.world.state _ at c.requires.1.1.0 c.requires.1.0
     c.requires.1.1.1
-    (subst (λ (l : List PassesValue). WorldClosed g.consts w.stations.items w.book.list w.sems.list
-    w.rules.appended.list l) c.in-Ok.ensures.passes closed.closed)
+    (subst (λ (l : List PassesValue). WorldClosed g.consts w.world_inodes.items
+    w.book.list w.sems.list w.rules.appended.list l) c.in-Ok.ensures.passes closed.closed)
     (ap (λ (l : ListsValue). l.inodes) c.lists.view_is ∙ closed.inodes)
     (ap (λ (l : ListsValue). l.list) c.lists.view_is ∙ closed.list)
     (ap (λ (l : ListsValue). l.banks) c.lists.view_is ∙ closed.banks)
     c.in-Ok.ensures.ended
     (c.are_stuck-stuck.ensures
-    ∙ ap (λ (l : List Tasked). are_stuck (λ sem. left sem (past w.sems.list)) l)
+    ∙ ap (λ (l : List Tasked). are_stuck (λ sem. left sem (newest_first w.sems.list)) l)
     c.as_slice.ensures.value) refl own
     (base_is w.rules (length c.rules-in_force.result.now) c.len.result
     (ap (λ (l : List RuleValue). length l) force)

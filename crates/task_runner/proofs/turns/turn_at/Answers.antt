@@ -3,7 +3,7 @@ use Rattle.std.proofs.Common.{◌≡◌}
 use Rattle.std.specs.Prelude.{slice_set}
 use Rattle.std.proofs.lemmas.Result.{IfOk-weaker, on_err_weaker}
 use Rattle.run_model.specs.declared.turn.Turn.{Turn}
-use Rattle.task_core.specs.worlds.WorldRuns.{GoesTo, IsTurn}
+use Rattle.task_core.specs.worlds.WorldRuns.{IsTurn, StepsTaskTo}
 use Rattle.task_core.proofs.about_worlds.Stepping.{step_is_turn}
 use Rattle.task_runner.proofs.Running.{task_there}
 use Rattle.task_runner.proofs.Stopped.{moment_same}
@@ -22,7 +22,7 @@ returns-clause-turned g c =
       task = c.step.ensures.still;
     }) in
     IfOk-weaker c.step.result
-    (λ (r : Turn). GoesTo c.args.world.now c.step.new.world t c.step.new.self r)
+    (λ (r : Turn). StepsTaskTo c.args.world.now c.step.new.world t c.step.new.self r)
     (λ (r : Turn). IsTurn c.args.world.now c.step.new.world tasks
     (slice_set tasks c.args.k c.step.new.self) c.args.k r)
     law.1 c.step.ensures.go

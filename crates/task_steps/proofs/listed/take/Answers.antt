@@ -4,7 +4,7 @@ use Rattle.inode_events.specs.declared.deed.Deed.TheVariants as deed
 use Rattle.world_model.specs.inodes.answers.Answers.{BeginsBy, taken_told}
 use Rattle.world_model.specs.inodes.answers.declared.answers.Taken.{Taken}
 use Rattle.inode_events.specs.Integrity.{chosen_algo}
-use Rattle.inode_events.specs.Past.{past}
+use Rattle.inode_events.specs.NewestFirst.{newest_first}
 use Rattle.task_steps.proofs.Hashing.{take_left}
 use Rattle.task_steps.proofs.listed.take.Goals as goal
 
@@ -15,6 +15,7 @@ returns-in-Begun-clause-hashes c =
     (subst (λ (x : Taken). Acts c.args.cell.now c.take.new.self c.args.book.now.list
     c.take.new.book.list c.args.pass.now c.take.new.pass c.args.who (deed.Take c.args.file)
     (taken_told x)) c.in-Begun.is c.in_ok-algo.ensures.acts).journal
-    (subst (λ (x : Taken). BeginsBy (chosen_algo c.args.cell.now.inode (past c.args.cell.now.list))
+    (subst (λ (x : Taken). BeginsBy
+    (chosen_algo c.args.cell.now.inode (newest_first c.args.cell.now.list))
     x) c.in-Begun.is c.in_ok-algo.ensures.algo)
     c.begin.ensures

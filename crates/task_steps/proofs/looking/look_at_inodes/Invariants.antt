@@ -4,5 +4,5 @@ use Rattle.task_steps.proofs.looking.look_at_inodes.Given as goal
 
 abbrev pub invariant-loop-i : goal.invariant-loop-i
 invariant-loop-i l =
-    HaveLookedTo l.i l.initial.stations.items l.stations.items l.initial.passes.items
+    HaveLookedTo l.i l.initial.world_inodes.items l.world_inodes.items l.initial.passes.items
     l.passes.items

@@ -7,7 +7,7 @@ use Rattle.ima_top.specs.policy.rules.declared.access.Super.{Super}
 use Rattle.ima_top.proofs.about_runs.about_starts.Fits.{files_fit, places_fit}
 use Rattle.ima_top.proofs.about_runs.about_starts.Beginning.{started_is}
 use Rattle.ima_top.specs.scenes.Scene.{file_of, fs_of}
-use Rattle.ima_top.specs.worlds.WorldConsts.{Site}
+use Rattle.ima_top.specs.worlds.WorldConsts.{InodeConsts}
 use Rattle.ima_top.proofs.about_runners.Going.{all_tasks}
 use Rattle.ima_top.specs.starts.Started.{IsFile}
 use Rattle.worked_runs.proofs.start.started.Goals as goal
@@ -43,5 +43,5 @@ pub returns-clause-inodes : goal.returns-clause-inodes
 returns-clause-inodes c =
     let many : length c.in_ok-settings.field-0.inodes.items ≡ c.len-many.result =
     search rules in
-    sym (length-map c.in_ok-world.world.consts.sites (λ (x : Site). (x.path, x.birth)))
+    sym (length-map c.in_ok-world.world.consts.each_inode (λ (x : InodeConsts). (x.path, x.birth)))
     ∙ ap length c.in_ok-world.ensures.consts.files ∙ many

@@ -13,15 +13,16 @@ use Rattle.policy_cell.specs.declared.cell.RuleEntry.{RuleEntry}
 use Rattle.world_close.proofs.Listing.{all_ruled, book_others, rules_each, sem_others}
 use Rattle.world_close.proofs.lists.close_lists.Goals as goal
 
--- the requires, in order: stations, book, sems, rules, spares, count, passes
+-- the requires, in order: inodes, book, sems, rules, spares, count, passes
 pub take_back-requires : goal.take_back-requires
 take_back-requires g c = (c.requires.0, c.requires.1.1.1.1.1)
 
 pub close-list-requires : goal.close-list-requires
 close-list-requires g c =
     let r = c.in_ok-back.ensures in
-    subst (λ (l : List (Passed Entry)). HasOthers c.args.parts.book l) (sym r.listers_are)
-    (book_others g.consts c.args.parts.book c.args.parts.stations.items r.book c.args.passes.items
+    subst (λ (l : List (Passed Entry)). HasOthers c.args.parts.book l) (sym r.list_passes_are)
+    (book_others g.consts c.args.parts.book c.args.parts.world_inodes.items r.book
+    c.args.passes.items
     c.requires.1.0 c.requires.0 r.closed c.requires.1.1.1.1.1.1 c.requires.1.1.1.1.1.0)
 
 pub close-signals-requires : goal.close-signals-requires
@@ -35,7 +36,7 @@ pub close-rules-requires : goal.close-rules-requires
 close-rules-requires g c =
     subst (λ (l : List (Passed RuleEntry)). HasEach c.args.parts.rules.appended l)
     (sym c.in_ok-back.ensures.appenders_are)
-    (rules_each g.consts c.args.parts.rules c.args.parts.stations.items c.args.passes.items
+    (rules_each g.consts c.args.parts.rules c.args.parts.world_inodes.items c.args.passes.items
     c.args.parts.spares.items c.requires.1.1.1.0 c.requires.0 c.requires.1.1.1.1.0
     c.requires.1.1.1.1.1.1 c.requires.1.1.1.1.1.0)
 
@@ -48,11 +49,11 @@ returns-clause-closed g c =
       book = record {
         first = c.requires.1.0.boot;
         seen = subst (λ (l : List (Passed Entry)). All
-            (λ (p : Passed Entry). IsPrefix p.seen c.args.parts.book.list) l) r.listers_are
+            (λ (p : Passed Entry). IsPrefix p.seen c.args.parts.book.list) l) r.list_passes_are
             c.close-list.ensures.seen;
         places = λ k below.
             subst (λ (l : List (Passed Entry)). count_by
-            (λ (p : Passed Entry). has_place k p.mine) l ≡ beside_own k) r.listers_are
+            (λ (p : Passed Entry). has_place k p.mine) l ≡ beside_own k) r.list_passes_are
             (c.close-list.ensures.places k below);
         distinct = c.close-list.ensures.distinct;
       };
@@ -64,7 +65,8 @@ returns-clause-closed g c =
             s.0,
             (let callers = c.requires.1.1.0.callers in let below = s.1 in omega arith),
           )) c.args.parts.sems.list c.close-signals.ensures.signed;
-      ruled = all_ruled g.consts c.args.parts.rules c.args.parts.stations.items c.args.passes.items
+      ruled = all_ruled g.consts c.args.parts.rules c.args.parts.world_inodes.items
+          c.args.passes.items
           c.args.parts.spares.items c.requires.1.1.1.0 c.requires.0 c.requires.1.1.1.1.0
           c.requires.1.1.1.1.1.1 c.requires.1.1.1.1.1.0
           (subst (λ (l : List (Passed RuleEntry)). All

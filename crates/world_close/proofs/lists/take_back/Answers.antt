@@ -8,20 +8,21 @@ use Rattle.world_close.specs.Rows.{AreNamed, RowsFit}
 use Rattle.world_close.proofs.Listing.{are_named, rows_fit}
 use Rattle.world_close.proofs.lists.take_back.Goals as goal
 
--- the requires, in order: stations, count, passes
-pub close_stations-requires : goal.close_stations-requires
-close_stations-requires g c =
-    let stations = c.requires.0 in
+-- the requires, in order: inodes, count, passes
+pub close_world_inodes-requires : goal.close_world_inodes-requires
+close_world_inodes-requires g c =
+    let world_inodes = c.requires.0 in
     let count = c.requires.1.0 in
     let passes = c.requires.1.1 in
-    let rows = c.in_ok-parted.ensures.rows in (
-      subst (λ (l : List (List (Passed Event))). RowsFit (length c.args.stations.items)
+    let rows = c.in_ok-by_list.ensures.rows in (
+      subst (λ (l : List (List (Passed Event))). RowsFit (length c.args.world_inodes.items)
           (journal_name g.consts) l) (sym rows)
-          (rows_fit g.consts c.args.passes.items (length c.args.stations.items) stations.even
-          passes),
-      subst (λ (n : ℕ). AreNamed (journal_name g.consts) n c.args.stations.items)
+          (rows_fit g.consts c.args.passes.items (length c.args.world_inodes.items)
+          world_inodes.even passes),
+      subst (λ (n : ℕ). AreNamed (journal_name g.consts) n c.args.world_inodes.items)
           (sym (ap length rows ∙ length-map c.args.passes.items (λ (p : PassesValue). p.inodes)))
-          (are_named g.consts c.args.stations.items (length c.args.passes.items) count stations),
+          (are_named g.consts c.args.world_inodes.items (length c.args.passes.items) count
+          world_inodes),
     )
 
 pub returns : goal.returns
@@ -29,15 +30,15 @@ returns g c =
     let inodes = ap (λ (v : ClosedValue). v.inodes) c.closed.view_is
     ∙ c.in_ok-closed.ensures.inodes_are in
     let book = ap (λ (v : ClosedValue). v.book) c.closed.view_is in
-    let counters = ap (λ (v : ClosedValue). v.rules) c.closed.view_is
+    let rule_passes = ap (λ (v : ClosedValue). v.rules) c.closed.view_is
     ∙ c.in_ok-closed.ensures.rules_are in
     record {
       book = c.in_ok-closed.closed.book;
       closed = c.in_ok-closed.ensures.closed;
       inodes_are = inodes;
-      listers_are = c.in_ok-listers.ensures
-          ∙ (λ i. book i ++ c.in_ok-parted.ensures.book i);
-      signals_are = c.in_ok-parted.ensures.sems;
+      list_passes_are = c.in_ok-list_passes.ensures
+          ∙ (λ i. book i ++ c.in_ok-by_list.ensures.book i);
+      signals_are = c.in_ok-by_list.ensures.sems;
       appenders_are = c.in_ok-appenders.ensures
-          ∙ (λ i. c.in_ok-parted.ensures.rules i ++ counters i ++ c.args.spares.items);
+          ∙ (λ i. c.in_ok-by_list.ensures.rules i ++ rule_passes i ++ c.args.spares.items);
     }

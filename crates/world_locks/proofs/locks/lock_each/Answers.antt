@@ -1,6 +1,6 @@
 -- The last inode is put under its lock, and those before it remain.
 use Rattle.std.proofs.Common.{◌≡◌, ℕ, ap, arith, length, length-append, subst}
-use Rattle.world_close.specs.worlds.World.{IsStation}
+use Rattle.world_close.specs.worlds.World.{IsWorldInode}
 use Rattle.world_locks.proofs.Locking.{each_before, last_is}
 use Rattle.world_locks.proofs.locks.lock_each.Goals as goal
 
@@ -8,18 +8,18 @@ pub lock_at-requires-after_bounds : goal.lock_at-requires-after_bounds
 lock_at-requires-after_bounds g c κs within =
     let left = c.pop.new.self in
     let place : length left.items ≡ c.len.result = omega (arith, c.len.ensures, left.ok.0) in
-    subst (λ (n : ℕ). IsStation g.N.Name.consts n c.in-Some.station) place
-    (last_is g.N.Name.consts c.loop-station.left.items left.items c.in-Some.station
-    c.in-Some.ensures.items c.loop-station.invariant.each)
+    subst (λ (n : ℕ). IsWorldInode g.N.Name.consts n c.in-Some.world_inode) place
+    (last_is g.N.Name.consts c.loop-world_inode.left.items left.items c.in-Some.world_inode
+    c.in-Some.ensures.items c.loop-world_inode.invariant.each)
 
-pub loop-station-preserved : goal.loop-station-preserved
-loop-station-preserved g c = record {
+pub loop-world_inode-preserved : goal.loop-world_inode-preserved
+loop-world_inode-preserved g c = record {
   all = omega (
     arith,
     simp length-append at (ap length c.in-Some.ensures.items),
     simp length-append at (ap length c.in_ok-push.ensures.items),
-    c.loop-station.invariant.all,
+    c.loop-world_inode.invariant.all,
   );
-  each = each_before g.N.Name.consts c.loop-station.left.items c.pop.new.self.items
-      c.in-Some.station c.in-Some.ensures.items c.loop-station.invariant.each;
+  each = each_before g.N.Name.consts c.loop-world_inode.left.items c.pop.new.self.items
+      c.in-Some.world_inode c.in-Some.ensures.items c.loop-world_inode.invariant.each;
 }

@@ -2,11 +2,11 @@ use Rattle.std.proofs.Common.{◌≡◌, ◌+◌, length, vec_len}
 use Rattle.world_locks.specs.Each.{AreEach}
 use Rattle.world_locks.proofs.locks.lock_each.Given as goal
 
-abbrev pub invariant-loop-station : goal.invariant-loop-station
-invariant-loop-station g l = record {
-  all : length l.left.items + length l.locked.items ≡ length g.N.Name.consts.sites;
+abbrev pub invariant-loop-world_inode : goal.invariant-loop-world_inode
+invariant-loop-world_inode g l = record {
+  all : length l.left.items + length l.locked.items ≡ length g.N.Name.consts.each_inode;
   each : AreEach g.N.Name.consts l.left.items;
 }
 
-abbrev pub decreases-loop-station : goal.decreases-loop-station
-decreases-loop-station g l = vec_len l.left
+abbrev pub decreases-loop-world_inode : goal.decreases-loop-world_inode
+decreases-loop-world_inode g l = vec_len l.left

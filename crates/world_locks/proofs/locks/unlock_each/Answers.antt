@@ -12,8 +12,8 @@ loop-mutex-preserved g c = record {
     length_push c.loop-mutex.yielded c.in-Some.mutex,
     c.loop-mutex.invariant.all,
   );
-  each = each_more g.N.Name.consts c.loop-mutex.stations.items c.push.new.self.items c.len.result
-      c.in_ok-station.station c.in_ok-push.ensures.items
-      (omega (arith, c.len.ensures, c.loop-mutex.stations.ok.0)) c.in_ok-station.ensures
+  each = each_more g.N.Name.consts c.loop-mutex.world_inodes.items c.push.new.self.items
+      c.len.result c.in_ok-world_inode.world_inode c.in_ok-push.ensures.items
+      (omega (arith, c.len.ensures, c.loop-mutex.world_inodes.ok.0)) c.in_ok-world_inode.ensures
       c.loop-mutex.invariant.each;
 }

@@ -10,21 +10,21 @@ returns-clause-task_appenders c =
     let above = below_max (c.args.tasks + c.args.count) in
     fresh_take name (λ k. k) c.args.tasks c.appenders_of-appenders.result
     c.in_ok-rules.task_appenders.items c.split_off.new.self.items (omega arith)
-    c.in_ok-counters.ensures.items
+    c.in_ok-rule_passes.ensures.items
     (fresh_all name (λ k. k) c.appenders_of-appenders.result c.in_ok-rules.task_appenders.items
     c.in_ok-rules.ensures.count c.in_ok-rules.ensures.passes)
 
-pub returns-clause-counters : goal.returns-clause-counters
-returns-clause-counters c =
+pub returns-clause-rule_passes : goal.returns-clause-rule_passes
+returns-clause-rule_passes c =
     let name = c.in_ok-rules.rules.appended.name in
     let callers = c.appenders_of-appenders.ensures in
     let above = below_max (c.args.tasks + c.args.count) in
     fresh_take name (λ k. c.args.tasks + k) c.args.count
-    (c.appenders_of-appenders.result - c.args.tasks) c.in_ok-counters.counters.items
+    (c.appenders_of-appenders.result - c.args.tasks) c.in_ok-rule_passes.rule_passes.items
     c.split_off-2.new.self.items (omega arith) c.in_ok-spares.ensures.items
     (fresh_drop name (λ k. k) c.args.tasks c.appenders_of-appenders.result
     (c.appenders_of-appenders.result - c.args.tasks) c.in_ok-rules.task_appenders.items
-    c.in_ok-counters.counters.items (omega arith) c.in_ok-counters.ensures.tail
+    c.in_ok-rule_passes.rule_passes.items (omega arith) c.in_ok-rule_passes.ensures.tail
     (fresh_all name (λ k. k) c.appenders_of-appenders.result c.in_ok-rules.task_appenders.items
     c.in_ok-rules.ensures.count c.in_ok-rules.ensures.passes))
 
@@ -36,11 +36,11 @@ returns-clause-spares c =
     let after = fresh_drop name (λ k. c.args.tasks + k) c.args.count
     (c.appenders_of-appenders.result - c.args.tasks)
     (max 1 (c.args.tasks + c.args.count) - (c.args.tasks + c.args.count))
-    c.in_ok-counters.counters.items c.in_ok-spares.spares.items (omega arith)
+    c.in_ok-rule_passes.rule_passes.items c.in_ok-spares.spares.items (omega arith)
     c.in_ok-spares.ensures.tail
     (fresh_drop name (λ k. k) c.args.tasks c.appenders_of-appenders.result
     (c.appenders_of-appenders.result - c.args.tasks) c.in_ok-rules.task_appenders.items
-    c.in_ok-counters.counters.items (omega arith) c.in_ok-counters.ensures.tail
+    c.in_ok-rule_passes.rule_passes.items (omega arith) c.in_ok-rule_passes.ensures.tail
     (fresh_all name (λ k. k) c.appenders_of-appenders.result c.in_ok-rules.task_appenders.items
     c.in_ok-rules.ensures.count c.in_ok-rules.ensures.passes)) in
     fresh_as name (λ k. c.args.tasks + (c.args.count + k)) (λ k. c.args.tasks + c.args.count + k)

@@ -7,18 +7,18 @@ use Rattle.world_start.proofs.lists.start_inodes.Goals as goal
 pub gather-requires : goal.gather-requires
 gather-requires c =
     let w = c.new-columns.ensures in
-    let rows = ap length w.rows ∙ c.in_ok-stations.ensures.rows.0 in
+    let rows = ap length w.rows ∙ c.in_ok-world_inodes.ensures.rows.0 in
     record {
-      sems = ap length w.sems ∙ c.requires.signallers ∙ sym rows;
-      book = ap length w.book ∙ c.requires.task_listers ∙ sym rows;
+      sems = ap length w.sems ∙ c.requires.signal_passes ∙ sym rows;
+      book = ap length w.book ∙ c.requires.task_list_passes ∙ sym rows;
       rules = ap length w.rules ∙ c.requires.appenders ∙ sym rows;
     }
 
 pub returns-clause-rows : goal.returns-clause-rows
 returns-clause-rows c =
-    subst (λ (l : List (List (Passed Event))). AreRows c.in_ok-stations.stations.items
+    subst (λ (l : List (List (Passed Event))). AreRows c.in_ok-world_inodes.world_inodes.items
     c.args.tasks l) (sym (c.in_ok-passes.ensures.rows ∙ c.new-columns.ensures.rows))
-    c.in_ok-stations.ensures.rows
+    c.in_ok-world_inodes.ensures.rows
 
 pub returns-clause-sems : goal.returns-clause-sems
 returns-clause-sems c = c.in_ok-passes.ensures.sems ∙ c.new-columns.ensures.sems

@@ -5,8 +5,8 @@ use Rattle.grow_list.specs.Shown.{Accounts}
 use Rattle.grow_list.proofs.Closing.{accounts, accounts_at, tallies_at, all_saw, places}
 use Rattle.grow_list.proofs.list.Grow.close_with.Goals as goal
 
-pub part-requires-clause-seats : goal.part-requires-clause-seats
-part-requires-clause-seats g c =
+pub end_pass-requires-clause-seats : goal.end_pass-requires-clause-seats
+end_pass-requires-clause-seats g c =
     let name = ap (λ v. v.name) c.self.view_is in
     let own = All-head (λ p. p.name ≡ c.args.self.name) c.args.own c.args.passes.items
     c.requires.of_list in (
@@ -18,8 +18,8 @@ part-requires-clause-seats g c =
 pub take_back-requires-clause-of_list : goal.take_back-requires-clause-of_list
 take_back-requires-clause-of_list g c =
     let name = ap (λ v. v.name) c.self.view_is in
-    let here = sym name ∙ sym c.end.ensures.list.table_id ∙ sym c.part.ensures.list.table_id in
-    All-weaker (λ p. p.name ≡ c.args.self.name) (λ p. p.name ≡ c.part.new.list.table_id)
+    let here = sym name ∙ sym c.end.ensures.list.table_id ∙ sym c.end_pass.ensures.list.table_id in
+    All-weaker (λ p. p.name ≡ c.args.self.name) (λ p. p.name ≡ c.end_pass.new.list.table_id)
     (λ p e. e ∙ here) c.args.passes.items
     (All-tail (λ p. p.name ≡ c.args.self.name) c.args.own c.args.passes.items c.requires.of_list)
 
@@ -31,10 +31,10 @@ returns-clause-seen g c =
     let pass = c.into_place.ensures.pass in
     let place = held c.into_place.result.me.0 in
     let own = accounts l c.args.own place pass.number pass.seen pass.mine
-    (tallies_at c.end.new.list.me.0 c.self.inside.seat.me.0 place end c.part.ensures.tallies)
+    (tallies_at c.end.new.list.me.0 c.self.inside.seat.me.0 place end c.end_pass.ensures.tallies)
     in
-    let others = accounts_at c.part.new.list.me.0 c.self.inside.seat.me.0 c.args.passes.items
-    (ap (λ m. m.0) c.part.ensures.list.me ∙ end) c.take_back.ensures.accounts in
+    let others = accounts_at c.end_pass.new.list.me.0 c.self.inside.seat.me.0 c.args.passes.items
+    (ap (λ m. m.0) c.end_pass.ensures.list.me ∙ end) c.take_back.ensures.accounts in
     all_saw c.args.self l (c.args.own ∷ c.args.passes.items) (c.self.invariant.list
     ∙ ap (λ v. v.list) is) (All-cons (Accounts l) c.args.own c.args.passes.items own others)
 
@@ -46,10 +46,10 @@ returns-clause-places g c =
     let pass = c.into_place.ensures.pass in
     let place = held c.into_place.result.me.0 in
     let own = accounts l c.args.own place pass.number pass.seen pass.mine
-    (tallies_at c.end.new.list.me.0 c.self.inside.seat.me.0 place end c.part.ensures.tallies)
+    (tallies_at c.end.new.list.me.0 c.self.inside.seat.me.0 place end c.end_pass.ensures.tallies)
     in
-    let others = accounts_at c.part.new.list.me.0 c.self.inside.seat.me.0 c.args.passes.items
-    (ap (λ m. m.0) c.part.ensures.list.me ∙ end) c.take_back.ensures.accounts in
+    let others = accounts_at c.end_pass.new.list.me.0 c.self.inside.seat.me.0 c.args.passes.items
+    (ap (λ m. m.0) c.end_pass.ensures.list.me ∙ end) c.take_back.ensures.accounts in
     places c.args.self l (c.args.own ∷ c.args.passes.items) (c.self.invariant.list
     ∙ ap (λ v. v.list) is) (ap (λ v. v.numbers) is) (c.self.invariant.callers
     ∙ ap (λ v. v.callers) is)

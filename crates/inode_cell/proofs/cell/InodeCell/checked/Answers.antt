@@ -3,7 +3,7 @@ use Rattle.ima_templates.specs.declared.entry.Entry.{Entry}
 use Rattle.inode_events.specs.Asked.{asked, list_after, outcome, placed_for}
 use Rattle.inode_events.specs.Files.{held, holds, is_writer}
 use Rattle.inode_events.specs.Inode.{Inode}
-use Rattle.inode_events.specs.Past.{past}
+use Rattle.inode_events.specs.NewestFirst.{newest_first}
 use Rattle.inode_events.specs.Stage.{is_gone, stage}
 use Rattle.inode_events.specs.declared.deed.Deed.{Deed}
 use Rattle.inode_events.specs.declared.deed.Deed.TheVariants as deed
@@ -28,7 +28,7 @@ pub enter-requires-clause-told : goal.enter-requires-clause-told
 enter-requires-clause-told c =
     let k = c.self-2.inside.kept in
     let i0 = k.inode in
-    let p = past k.list in
+    let p = newest_first k.list in
     let file = c.args.file in
     let action : Action = action_value c.action.inside in
     let d : Deed = deed.Check file c.args.func action c.args.rules in
@@ -37,40 +37,41 @@ enter-requires-clause-told c =
     let e = c.in_ok-entry.entry in
     let t : Told = c.found_told-told.result in
     let s = c.state-state.result.now in
-    let how : is_gone (stage c.self.inside.kept.inode file (past c.self.inside.kept.list)) ≡ false
-    → c.how_at.result ≡ held file (past c.self.inside.kept.list) = c.how_at.ensures in
-    let alive : is_gone (stage c.self.inside.kept.inode file (past c.self.inside.kept.list)) ≡
-    false =
-    subst (λ (v : CellValue). is_gone (stage v.inode file (past v.list)) ≡ false) (sym
-    c.self.view_is) (check_alive (stage c.args.self.now.inode file (past c.args.self.now.list))
-    c.requires.may.may) in
-    let reads_inside : Reads (past c.self.inside.kept.list) file c.counts_as-writing.result
-    s.counts.readers s.counts.writers s.marks.must = record {
+    let how : is_gone (stage c.self.inside.kept.inode file (newest_first c.self.inside.kept.list))
+    ≡ false
+    → c.how_at.result ≡ held file (newest_first c.self.inside.kept.list) = c.how_at.ensures in
+    let alive : is_gone
+    (stage c.self.inside.kept.inode file (newest_first c.self.inside.kept.list)) ≡ false =
+    subst (λ (v : CellValue). is_gone (stage v.inode file (newest_first v.list)) ≡ false) (sym
+    c.self.view_is) (check_alive
+    (stage c.args.self.now.inode file (newest_first c.args.self.now.list)) c.requires.may.may) in
+    let reads_inside : Reads (newest_first c.self.inside.kept.list) file c.counts_as-writing.result
+    s.counts.readers s.counts.writers s.marks.must_measure = record {
       writing = c.counts_as-writing.ensures ∙ ap (λ (o : Option How). holds is_writer o) (how
           alive);
       readers_are = st.counts.readers;
       writers_are = st.counts.writers;
-      must_is = st.marks.must;
+      must_is = st.marks.must_measure;
     } in
-    let reads_old : Reads (past c.args.self.now.list) file c.counts_as-writing.result
-    s.counts.readers s.counts.writers s.marks.must =
-    subst (λ (v : CellValue). Reads (past v.list) file c.counts_as-writing.result s.counts.readers
-    s.counts.writers s.marks.must) c.self.view_is reads_inside in
+    let reads_old : Reads (newest_first c.args.self.now.list) file c.counts_as-writing.result
+    s.counts.readers s.counts.writers s.marks.must_measure =
+    subst (λ (v : CellValue). Reads (newest_first v.list) file c.counts_as-writing.result
+    s.counts.readers s.counts.writers s.marks.must_measure) c.self.view_is reads_inside in
     let move = moved c.args.self.now c.reserve.new.self (value_of c.self-2.inside)
     c.in_ok-reserve.ensures.list c.in_ok-reserve.ensures.same c.self-2.view_is in
     let reads : Reads p file c.counts_as-writing.result s.counts.readers s.counts.writers
-    s.marks.must =
+    s.marks.must_measure =
     move (λ (i : Inode) (q : List Event). Reads q file c.counts_as-writing.result s.counts.readers
-    s.counts.writers s.marks.must) reads_old in
-    let entry_old : e ≡ asked c.args.self.now.inode d (past c.args.self.now.list) =
-    check_asks c.args.self.now.inode (past c.args.self.now.list) file c.args.func action
-    c.args.rules e c.counts_as-writing.result s.counts.readers s.counts.writers s.marks.must
+    s.counts.writers s.marks.must_measure) reads_old in
+    let entry_old : e ≡ asked c.args.self.now.inode d (newest_first c.args.self.now.list) =
+    check_asks c.args.self.now.inode (newest_first c.args.self.now.list) file c.args.func action
+    c.args.rules e c.counts_as-writing.result s.counts.readers s.counts.writers s.marks.must_measure
     c.found.result reads_old c.found.ensures c.in_ok-entry.ensures in
     let entry_is : e ≡ asked i0 d p = move (λ (i : Inode) (q : List Event). e ≡ asked i d q)
     entry_old in
     let told_is : outcome i0 l d p ≡ Some t =
     check_tells i0 p file c.args.func action c.args.rules l e c.counts_as-writing.result
-    s.counts.readers s.counts.writers s.marks.must c.found-found.result
+    s.counts.readers s.counts.writers s.marks.must_measure c.found-found.result
     c.list_asked-placed.result c.place_of-place.result t
     reads entry_is c.list_asked-placed.ensures.placed c.place_of-place.ensures c.found-found.ensures
     c.found_told-told.ensures in
@@ -80,7 +81,7 @@ pub invariant_of-self : goal.invariant_of-self
 invariant_of-self c =
     let k = c.self-2.inside.kept in
     let i0 = k.inode in
-    let p = past k.list in
+    let p = newest_first k.list in
     let file = c.args.file in
     let action : Action = action_value c.action.inside in
     let d : Deed = deed.Check file c.args.func action c.args.rules in
@@ -89,40 +90,41 @@ invariant_of-self c =
     let e = c.in_ok-entry.entry in
     let t : Told = c.found_told-told.result in
     let s = c.state-state.result.now in
-    let how : is_gone (stage c.self.inside.kept.inode file (past c.self.inside.kept.list)) ≡ false
-    → c.how_at.result ≡ held file (past c.self.inside.kept.list) = c.how_at.ensures in
-    let alive : is_gone (stage c.self.inside.kept.inode file (past c.self.inside.kept.list)) ≡
-    false =
-    subst (λ (v : CellValue). is_gone (stage v.inode file (past v.list)) ≡ false) (sym
-    c.self.view_is) (check_alive (stage c.args.self.now.inode file (past c.args.self.now.list))
-    c.requires.may.may) in
-    let reads_inside : Reads (past c.self.inside.kept.list) file c.counts_as-writing.result
-    s.counts.readers s.counts.writers s.marks.must = record {
+    let how : is_gone (stage c.self.inside.kept.inode file (newest_first c.self.inside.kept.list))
+    ≡ false
+    → c.how_at.result ≡ held file (newest_first c.self.inside.kept.list) = c.how_at.ensures in
+    let alive : is_gone
+    (stage c.self.inside.kept.inode file (newest_first c.self.inside.kept.list)) ≡ false =
+    subst (λ (v : CellValue). is_gone (stage v.inode file (newest_first v.list)) ≡ false) (sym
+    c.self.view_is) (check_alive
+    (stage c.args.self.now.inode file (newest_first c.args.self.now.list)) c.requires.may.may) in
+    let reads_inside : Reads (newest_first c.self.inside.kept.list) file c.counts_as-writing.result
+    s.counts.readers s.counts.writers s.marks.must_measure = record {
       writing = c.counts_as-writing.ensures ∙ ap (λ (o : Option How). holds is_writer o) (how
           alive);
       readers_are = st.counts.readers;
       writers_are = st.counts.writers;
-      must_is = st.marks.must;
+      must_is = st.marks.must_measure;
     } in
-    let reads_old : Reads (past c.args.self.now.list) file c.counts_as-writing.result
-    s.counts.readers s.counts.writers s.marks.must =
-    subst (λ (v : CellValue). Reads (past v.list) file c.counts_as-writing.result s.counts.readers
-    s.counts.writers s.marks.must) c.self.view_is reads_inside in
+    let reads_old : Reads (newest_first c.args.self.now.list) file c.counts_as-writing.result
+    s.counts.readers s.counts.writers s.marks.must_measure =
+    subst (λ (v : CellValue). Reads (newest_first v.list) file c.counts_as-writing.result
+    s.counts.readers s.counts.writers s.marks.must_measure) c.self.view_is reads_inside in
     let move = moved c.args.self.now c.reserve.new.self (value_of c.self-2.inside)
     c.in_ok-reserve.ensures.list c.in_ok-reserve.ensures.same c.self-2.view_is in
     let reads : Reads p file c.counts_as-writing.result s.counts.readers s.counts.writers
-    s.marks.must =
+    s.marks.must_measure =
     move (λ (i : Inode) (q : List Event). Reads q file c.counts_as-writing.result s.counts.readers
-    s.counts.writers s.marks.must) reads_old in
-    let entry_old : e ≡ asked c.args.self.now.inode d (past c.args.self.now.list) =
-    check_asks c.args.self.now.inode (past c.args.self.now.list) file c.args.func action
-    c.args.rules e c.counts_as-writing.result s.counts.readers s.counts.writers s.marks.must
+    s.counts.writers s.marks.must_measure) reads_old in
+    let entry_old : e ≡ asked c.args.self.now.inode d (newest_first c.args.self.now.list) =
+    check_asks c.args.self.now.inode (newest_first c.args.self.now.list) file c.args.func action
+    c.args.rules e c.counts_as-writing.result s.counts.readers s.counts.writers s.marks.must_measure
     c.found.result reads_old c.found.ensures c.in_ok-entry.ensures in
     let entry_is : e ≡ asked i0 d p = move (λ (i : Inode) (q : List Event). e ≡ asked i d q)
     entry_old in
     let told_is : outcome i0 l d p ≡ Some t =
     check_tells i0 p file c.args.func action c.args.rules l e c.counts_as-writing.result
-    s.counts.readers s.counts.writers s.marks.must c.found-found.result
+    s.counts.readers s.counts.writers s.marks.must_measure c.found-found.result
     c.list_asked-placed.result c.place_of-place.result t
     reads entry_is c.list_asked-placed.ensures.placed c.place_of-place.ensures c.found-found.ensures
     c.found_told-told.ensures in
@@ -141,7 +143,7 @@ pub returns-clause-acts : goal.returns-clause-acts
 returns-clause-acts c =
     let k = c.self-2.inside.kept in
     let i0 = k.inode in
-    let p = past k.list in
+    let p = newest_first k.list in
     let file = c.args.file in
     let action : Action = action_value c.action.inside in
     let d : Deed = deed.Check file c.args.func action c.args.rules in
@@ -150,40 +152,41 @@ returns-clause-acts c =
     let e = c.in_ok-entry.entry in
     let t : Told = c.found_told-told.result in
     let s = c.state-state.result.now in
-    let how : is_gone (stage c.self.inside.kept.inode file (past c.self.inside.kept.list)) ≡ false
-    → c.how_at.result ≡ held file (past c.self.inside.kept.list) = c.how_at.ensures in
-    let alive : is_gone (stage c.self.inside.kept.inode file (past c.self.inside.kept.list)) ≡
-    false =
-    subst (λ (v : CellValue). is_gone (stage v.inode file (past v.list)) ≡ false) (sym
-    c.self.view_is) (check_alive (stage c.args.self.now.inode file (past c.args.self.now.list))
-    c.requires.may.may) in
-    let reads_inside : Reads (past c.self.inside.kept.list) file c.counts_as-writing.result
-    s.counts.readers s.counts.writers s.marks.must = record {
+    let how : is_gone (stage c.self.inside.kept.inode file (newest_first c.self.inside.kept.list))
+    ≡ false
+    → c.how_at.result ≡ held file (newest_first c.self.inside.kept.list) = c.how_at.ensures in
+    let alive : is_gone
+    (stage c.self.inside.kept.inode file (newest_first c.self.inside.kept.list)) ≡ false =
+    subst (λ (v : CellValue). is_gone (stage v.inode file (newest_first v.list)) ≡ false) (sym
+    c.self.view_is) (check_alive
+    (stage c.args.self.now.inode file (newest_first c.args.self.now.list)) c.requires.may.may) in
+    let reads_inside : Reads (newest_first c.self.inside.kept.list) file c.counts_as-writing.result
+    s.counts.readers s.counts.writers s.marks.must_measure = record {
       writing = c.counts_as-writing.ensures ∙ ap (λ (o : Option How). holds is_writer o) (how
           alive);
       readers_are = st.counts.readers;
       writers_are = st.counts.writers;
-      must_is = st.marks.must;
+      must_is = st.marks.must_measure;
     } in
-    let reads_old : Reads (past c.args.self.now.list) file c.counts_as-writing.result
-    s.counts.readers s.counts.writers s.marks.must =
-    subst (λ (v : CellValue). Reads (past v.list) file c.counts_as-writing.result s.counts.readers
-    s.counts.writers s.marks.must) c.self.view_is reads_inside in
+    let reads_old : Reads (newest_first c.args.self.now.list) file c.counts_as-writing.result
+    s.counts.readers s.counts.writers s.marks.must_measure =
+    subst (λ (v : CellValue). Reads (newest_first v.list) file c.counts_as-writing.result
+    s.counts.readers s.counts.writers s.marks.must_measure) c.self.view_is reads_inside in
     let move = moved c.args.self.now c.reserve.new.self (value_of c.self-2.inside)
     c.in_ok-reserve.ensures.list c.in_ok-reserve.ensures.same c.self-2.view_is in
     let reads : Reads p file c.counts_as-writing.result s.counts.readers s.counts.writers
-    s.marks.must =
+    s.marks.must_measure =
     move (λ (i : Inode) (q : List Event). Reads q file c.counts_as-writing.result s.counts.readers
-    s.counts.writers s.marks.must) reads_old in
-    let entry_old : e ≡ asked c.args.self.now.inode d (past c.args.self.now.list) =
-    check_asks c.args.self.now.inode (past c.args.self.now.list) file c.args.func action
-    c.args.rules e c.counts_as-writing.result s.counts.readers s.counts.writers s.marks.must
+    s.counts.writers s.marks.must_measure) reads_old in
+    let entry_old : e ≡ asked c.args.self.now.inode d (newest_first c.args.self.now.list) =
+    check_asks c.args.self.now.inode (newest_first c.args.self.now.list) file c.args.func action
+    c.args.rules e c.counts_as-writing.result s.counts.readers s.counts.writers s.marks.must_measure
     c.found.result reads_old c.found.ensures c.in_ok-entry.ensures in
     let entry_is : e ≡ asked i0 d p = move (λ (i : Inode) (q : List Event). e ≡ asked i d q)
     entry_old in
     let told_is : outcome i0 l d p ≡ Some t =
     check_tells i0 p file c.args.func action c.args.rules l e c.counts_as-writing.result
-    s.counts.readers s.counts.writers s.marks.must c.found-found.result
+    s.counts.readers s.counts.writers s.marks.must_measure c.found-found.result
     c.list_asked-placed.result c.place_of-place.result t
     reads entry_is c.list_asked-placed.ensures.placed c.place_of-place.ensures c.found-found.ensures
     c.found_told-told.ensures in

@@ -1,7 +1,7 @@
 use Rattle.std.proofs.Common.{Some, ℕ, refl, sym, ap, subst, ◌∙◌}
 use Rattle.inode_events.specs.declared.deed.Deed.TheVariants as deed
 use Rattle.inode_events.specs.declared.told.Told.TheVariants as told
-use Rattle.inode_events.specs.Past.{past}
+use Rattle.inode_events.specs.NewestFirst.{newest_first}
 use Rattle.inode_events.specs.Integrity.{collecting}
 use Rattle.inode_cell.proofs.Acting.{acts_from, may_from, label_of_close}
 use Rattle.inode_cell.specs.Acts.{IsChange, MayBy}
@@ -35,7 +35,7 @@ returns-else-state-eq1-clause-acts c = λ list.
 pub step_with-requires-clause-changes : goal.step_with-requires-clause-changes
 step_with-requires-clause-changes c =
     let k = c.self.inside.kept in
-    let p = past k.list in
+    let p = newest_first k.list in
     let e : Event = record {
       who = c.args.who;
       deed = deed.CloseFinish c.args.file;
@@ -48,11 +48,12 @@ step_with-requires-clause-changes c =
     (may_from c.args.self.now c.reserve.new.self c.args.pass.now.number (deed.CloseFinish
     c.args.file) c.in_ok-reserve.ensures.list c.in_ok-reserve.ensures.same c.requires.may) in
     let sums : HasSums k.inode p c.args.sums =
-    subst (λ (v : CellValue). HasSums v.inode (past v.list) c.args.sums) (sym c.self.view_is)
+    subst (λ (v : CellValue). HasSums v.inode (newest_first v.list) c.args.sums)
+    (sym c.self.view_is)
     (sums_from c.args.self.now c.reserve.new.self c.args.sums c.in_ok-reserve.ensures.list
     c.in_ok-reserve.ensures.same c.requires.sums) in
     let st = c.state.ensures.kept in
-    subst (λ (v : CellValue). IsChange v.inode (past v.list) c.args.who (deed.CloseFinish
+    subst (λ (v : CellValue). IsChange v.inode (newest_first v.list) c.args.who (deed.CloseFinish
     c.args.file) told.LabelledDropped c.dropping-facts.result (Some c.args.sums.0))
     c.self.view_is
     (record {

@@ -3,7 +3,7 @@ use Rattle.hash_algos.specs.declared.digest.Digest.{Digest}
 use Rattle.inode_events.specs.Checks.{last_check}
 use Rattle.inode_events.specs.Files.{held, holds, is_writer}
 use Rattle.inode_events.specs.Integrity.{attributes, collecting, fixed_by}
-use Rattle.inode_events.specs.Past.{past}
+use Rattle.inode_events.specs.NewestFirst.{newest_first}
 use Rattle.inode_events.specs.Stage.{is_gone, stage}
 use Rattle.inode_events.specs.State.{metadata}
 use Rattle.inode_events.specs.declared.deed.Deed.TheVariants as deed
@@ -22,14 +22,14 @@ pub grant-requires-clause-grants : goal.grant-requires-clause-grants
 grant-requires-clause-grants c =
     let v = c.args.self.now in
     let i = v.inode in
-    let p = past v.list in
+    let p = newest_first v.list in
     let file = c.args.file in
     let open_is : Collects file (collecting i p) = c.asked_for-asked.ensures.collects in
     let check : IsAsked (last_check file p) c.asked_for-asked.result =
     c.asked_for-asked.ensures.asked in
     let how : is_gone (stage i file p) ≡ false → c.how_at.result ≡ held file p =
-    subst (λ (v : CellValue). is_gone (stage v.inode file (past v.list)) ≡ false
-    → c.how_at.result ≡ held file (past v.list)) c.self.view_is c.how_at.ensures in
+    subst (λ (v : CellValue). is_gone (stage v.inode file (newest_first v.list)) ≡ false
+    → c.how_at.result ≡ held file (newest_first v.list)) c.self.view_is c.how_at.ensures in
     record {
       check = check;
       sha1 = finish_sha1 file c.args.sums (collecting i p) open_is c.requires.sums;

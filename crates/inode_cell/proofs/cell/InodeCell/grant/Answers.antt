@@ -6,7 +6,7 @@ use Rattle.inode_events.specs.Checks.{Check, last_check}
 use Rattle.inode_events.specs.Grants.{admits, grant_of, mends, placed_if_measured, verdict_for}
 use Rattle.inode_events.specs.Inode.{Inode}
 use Rattle.inode_events.specs.Integrity.{attributes, fixed_by}
-use Rattle.inode_events.specs.Past.{past}
+use Rattle.inode_events.specs.NewestFirst.{newest_first}
 use Rattle.inode_events.specs.State.{metadata}
 use Rattle.inode_events.specs.declared.told.Event.{Event}
 use Rattle.inode_events.specs.declared.told.Grant.{Grant}
@@ -22,7 +22,8 @@ use Rattle.inode_cell.proofs.cell.InodeCell.grant.Goals as goal
 
 pub enter-requires-clause-facts : goal.enter-requires-clause-facts
 enter-requires-clause-facts c =
-    let g : IsGranting c.self-2.inside.kept.inode (past c.self-2.inside.kept.list) c.args.who
+    let g : IsGranting c.self-2.inside.kept.inode
+    (newest_first c.self-2.inside.kept.list) c.args.who
     c.args.deed c.args.file c.args.asked.now c.args.sums.now c.args.facts.now =
     moved c.args.self.now c.reserve.new.self (value_of c.self-2.inside)
     c.in_ok-reserve.ensures.list c.in_ok-reserve.ensures.same c.self-2.view_is
@@ -43,7 +44,7 @@ pub invariant_of-self-2 : goal.invariant_of-self-2
 invariant_of-self-2 c =
     let k = c.self-2.inside.kept in
     let i0 = k.inode in
-    let p = past k.list in
+    let p = newest_first k.list in
     let h = c.self-2.invariant in
     let b = c.self-2.inside.book in
     let file = c.args.file in
@@ -68,7 +69,7 @@ invariant_of-self-2 c =
     let act : c.args.asked.now.action ≡ check.action = gr.check.action in
     let verdict_is : verdict ≡ verdict_for i0 check digest p =
     move (λ (i : Inode) (q : List Event). verdict ≡ verdict_for i (last_check file q) digest q)
-    (c.verdict_for-verdict.ensures (last_check file (past c.args.self.now.list))
+    (c.verdict_for-verdict.ensures (last_check file (newest_first c.args.self.now.list))
     c.requires.grants.check) in
     let mends_is : c.mends-mends.result ≡ mends i0 c.args.asked.now.action digest verdict p =
     move (λ (i : Inode) (q : List Event). c.mends-mends.result ≡ mends i c.args.asked.now.action

@@ -1,6 +1,6 @@
 use Rattle.std.proofs.Common.{ℕ, List, sym, subst, ◌∙◌}
 use Rattle.inode_events.specs.declared.deed.Deed.TheVariants as deed
-use Rattle.inode_events.specs.Past.{past}
+use Rattle.inode_events.specs.NewestFirst.{newest_first}
 use Rattle.inode_events.specs.Integrity.{collecting}
 use Rattle.inode_answers.specs.Answers.{set_told}
 use Rattle.inode_cell.proofs.Acting.{blocked}
@@ -16,8 +16,9 @@ pub returns-then-is_collecting-clause-acts : goal.returns-then-is_collecting-cla
 returns-then-is_collecting-clause-acts c = λ list.
     let v = c.args.self.now in
     c.block.ensures list c.args.who (deed.SetAttr c.args.name.now (option_copied c.args.value)
-    c.args.cred.now.admin) (blocked (collecting v.inode (past v.list)) (set_attr_told v.inode
-    c.args.name.now (option_copied c.args.value) c.args.cred.now.admin (past v.list)) (sym
+    c.args.cred.now.admin)
+    (blocked (collecting v.inode (newest_first v.list)) (set_attr_told v.inode
+    c.args.name.now (option_copied c.args.value) c.args.cred.now.admin (newest_first v.list)) (sym
     c.is_collecting.ensures ∙ c.if-is_collecting.true))
 
 pub returns-clause-acts : goal.returns-clause-acts

@@ -2,7 +2,7 @@ use Rattle.std.proofs.Common.{Option, Some, ℕ, List, ap, ◌∙◌}
 use Rattle.inode_events.specs.declared.deed.Deed.TheVariants as deed
 use Rattle.inode_events.specs.declared.told.Told.{Told}
 use Rattle.inode_events.specs.declared.told.Told.TheVariants as told
-use Rattle.inode_events.specs.Past.{past}
+use Rattle.inode_events.specs.NewestFirst.{newest_first}
 use Rattle.inode_answers.specs.Answers.{set_told}
 use Rattle.inode_cell.proofs.Acting.{acts_from, acts_refused}
 use Rattle.inode_events.specs.Says.{set_attr_told}
@@ -19,7 +19,8 @@ returns-in_ok-step_with-in-Done-clause-acts c = λ list.
 pub returns-in_default : goal.returns-in_default
 returns-in_default c =
     let told_at : List ℕ → Option (List ℕ) → Option Told = λ n v.
-    Some (set_attr_told c.reserve.new.self.inode n v c.args.admin (past c.reserve.new.self.list)) in
+    Some (set_attr_told c.reserve.new.self.inode n v c.args.admin
+    (newest_first c.reserve.new.self.list)) in
     let answer = c.attr_answer.ensures
     ∙ ap (λ (n : List ℕ). told_at n c.get.result.now) c.as_slice.ensures.bytes
     ∙ ap (λ (v : Option (List ℕ)). told_at c.args.name v) c.get.ensures in
@@ -28,10 +29,10 @@ returns-in_default c =
           acts_refused c.args.self.now c.reserve.new.self c.step.new.self list list c.args.pass.now
           c.step.new.pass c.args.who (deed.SetAttr c.args.name c.args.value c.args.admin)
           c.set_outcome.result (set_attr_told c.reserve.new.self.inode c.args.name c.args.value
-          c.args.admin (past c.reserve.new.self.list)) (set_told c.attr_answer.result)
+          c.args.admin (newest_first c.reserve.new.self.list)) (set_told c.attr_answer.result)
           c.in_ok-reserve.ensures.list c.in_ok-reserve.ensures.same
           (c.set_outcome.ensures (set_attr_told c.reserve.new.self.inode c.args.name c.args.value
-          c.args.admin (past c.reserve.new.self.list)) answer)
+          c.args.admin (newest_first c.reserve.new.self.list)) answer)
           answer
           (c.step.ensures list);
       err = tt;

@@ -1,28 +1,29 @@
 use Rattle.std.proofs.Common.{[], sym, subst, ◌∙◌}
 use Rattle.ima_templates.specs.declared.entry.Placed.TheVariants.{Added}
-use Rattle.inode_events.specs.Past.{past}
+use Rattle.inode_events.specs.NewestFirst.{newest_first}
 use Rattle.inode_cell.specs.Acts.{IsPlain}
 use Rattle.inode_cell.specs.Value.{CellValue}
 use Rattle.inode_cell.proofs.Steps.{books_quiet, holds_on, outcome_quiet, placed_back}
 use Rattle.inode_cell.proofs.cell.InodeCell.step.Goals as goal
 
 plain : (c : goal.After-enter-arg-2-1)
-    → IsPlain c.self.inside.kept.inode (past c.self.inside.kept.list) c.args.who c.args.deed
+    → IsPlain c.self.inside.kept.inode (newest_first c.self.inside.kept.list) c.args.who c.args.deed
     c.args.told c.args.facts.now
-plain c = subst (λ (v : CellValue). IsPlain v.inode (past v.list) c.args.who c.args.deed
+plain c = subst (λ (v : CellValue). IsPlain v.inode (newest_first v.list) c.args.who c.args.deed
     c.args.told c.args.facts.now) (sym c.self.view_is) c.requires.plain
 
 pub enter-requires-clause-told : goal.enter-requires-clause-told
-enter-requires-clause-told c = placed_back c.self.inside.kept.inode (past c.self.inside.kept.list)
+enter-requires-clause-told c =
+    placed_back c.self.inside.kept.inode (newest_first c.self.inside.kept.list)
     (Added 0) c.args.deed c.args.told (plain c).told
 
 pub invariant_of-self : goal.invariant_of-self
 invariant_of-self c =
     let k = c.self.inside.kept in
-    let p = past k.list in
+    let p = newest_first k.list in
     let h = c.self.invariant in
     let x : IsPlain k.inode p c.args.who c.args.deed c.args.told c.args.facts.now = subst (λ (v :
-    CellValue). IsPlain v.inode (past v.list) c.args.who c.args.deed c.args.told
+    CellValue). IsPlain v.inode (newest_first v.list) c.args.who c.args.deed c.args.told
     c.args.facts.now) (sym c.self.view_is) c.requires.plain in
     rw c.enter.ensures.inode
     (holds_on k.inode k.list c.enter.new.self.list c.args.who c.args.deed c.args.told

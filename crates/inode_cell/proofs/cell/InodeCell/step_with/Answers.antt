@@ -2,7 +2,7 @@
 use Rattle.std.proofs.Common.{[], sym, subst, ◌∙◌}
 use Rattle.std.specs.Option.{option_copied}
 use Rattle.ima_templates.specs.declared.entry.Placed.TheVariants.{Added}
-use Rattle.inode_events.specs.Past.{past}
+use Rattle.inode_events.specs.NewestFirst.{newest_first}
 use Rattle.inode_cell.specs.Acts.{IsChange}
 use Rattle.inode_answers.specs.Changes.{rewritten}
 use Rattle.inode_cell.specs.Value.{CellValue}
@@ -10,14 +10,15 @@ use Rattle.inode_cell.proofs.Steps.{books_quiet, holds_on, outcome_quiet, placed
 use Rattle.inode_cell.proofs.cell.InodeCell.step_with.Goals as goal
 
 change : (c : goal.After-enter-arg-2-1)
-    → IsChange c.self.inside.kept.inode (past c.self.inside.kept.list) c.args.who c.args.deed
-    c.args.told c.args.facts.now (option_copied c.args.digest)
-change c = subst (λ (v : CellValue). IsChange v.inode (past v.list) c.args.who c.args.deed
+    → IsChange c.self.inside.kept.inode (newest_first c.self.inside.kept.list)
+    c.args.who c.args.deed c.args.told c.args.facts.now (option_copied c.args.digest)
+change c = subst (λ (v : CellValue). IsChange v.inode (newest_first v.list) c.args.who c.args.deed
     c.args.told c.args.facts.now (option_copied c.args.digest)) (sym c.self.view_is)
     c.requires.changes
 
 pub enter-requires-clause-told : goal.enter-requires-clause-told
-enter-requires-clause-told c = placed_back c.self.inside.kept.inode (past c.self.inside.kept.list)
+enter-requires-clause-told c =
+    placed_back c.self.inside.kept.inode (newest_first c.self.inside.kept.list)
     (Added 0) c.args.deed c.args.told (change c).told
 
 -- the invariant holds if memory ran out, since nothing changed
@@ -27,12 +28,13 @@ invariant_of-self c = rw c.in_err-rewrite.ensures.err c.self.invariant
 pub invariant_of-self-2 : goal.invariant_of-self-2
 invariant_of-self-2 c =
     let k = c.self.inside.kept in
-    let p = past k.list in
+    let p = newest_first k.list in
     let h = c.self.invariant in
     let b = c.self.inside.book in
     let digest = option_copied c.args.digest in
     let x : IsChange k.inode p c.args.who c.args.deed c.args.told c.args.facts.now digest =
-    subst (λ (v : CellValue). IsChange v.inode (past v.list) c.args.who c.args.deed c.args.told
+    subst (λ (v : CellValue). IsChange v.inode (newest_first v.list) c.args.who
+    c.args.deed c.args.told
     c.args.facts.now (option_copied c.args.digest)) (sym c.self.view_is) c.requires.changes in
     let settings = c.settings.ensures in
     let meta = c.state.ensures.kept.meta in

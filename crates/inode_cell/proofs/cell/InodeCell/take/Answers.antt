@@ -6,7 +6,7 @@ use Rattle.inode_events.specs.Asked.{asked, placed_for}
 use Rattle.inode_events.specs.Checks.{last_check}
 use Rattle.inode_events.specs.Inode.{Inode}
 use Rattle.inode_events.specs.Integrity.{attributes, collecting, fixed_by, in_force}
-use Rattle.inode_events.specs.Past.{past}
+use Rattle.inode_events.specs.NewestFirst.{newest_first}
 use Rattle.inode_events.specs.Says.{take_told}
 use Rattle.inode_events.specs.State.{metadata}
 use Rattle.inode_events.specs.declared.deed.Deed.TheVariants as deed
@@ -25,9 +25,9 @@ pub returns-then-is_collecting-clause-acts : goal.returns-then-is_collecting-cla
 returns-then-is_collecting-clause-acts c =
     let v = c.args.self.now in
     c.block.ensures c.args.book.now.list c.args.who (deed.Take c.args.file)
-    (blocked (collecting v.inode (past v.list)) (take_told v.inode c.args.file (placed_for
-    c.args.book.now.list (asked v.inode (deed.Take c.args.file) (past v.list))) (in_force
-    v.inode (past v.list)) (past v.list)) (sym c.is_collecting.ensures
+    (blocked (collecting v.inode (newest_first v.list)) (take_told v.inode c.args.file (placed_for
+    c.args.book.now.list (asked v.inode (deed.Take c.args.file) (newest_first v.list))) (in_force
+    v.inode (newest_first v.list)) (newest_first v.list)) (sym c.is_collecting.ensures
     ∙ c.if-is_collecting.true))
 
 pub returns-in_ok-reserve-in-None-clause-acts : goal.returns-in_ok-reserve-in-None-clause-acts
@@ -43,7 +43,7 @@ step-requires-clause-plain c =
     let old = c.args.self.now in
     let v = c.reserve.new.self in
     let i = v.inode in
-    let p = past v.list in
+    let p = newest_first v.list in
     let move = moved old v v c.in_ok-reserve-in-None.ensures.list
     c.in_ok-reserve-in-None.ensures.same refl in
     let free : is_some (collecting i p) ≡ false =
@@ -76,7 +76,7 @@ pub grant-requires-clause-grants : goal.grant-requires-clause-grants
 grant-requires-clause-grants c =
     let v = c.args.self.now in
     let i = v.inode in
-    let p = past v.list in
+    let p = newest_first v.list in
     let file = c.args.file in
     let sums = c.in-Some.sums in
     let free : is_some (collecting i p) ≡ false = sym c.is_collecting.ensures

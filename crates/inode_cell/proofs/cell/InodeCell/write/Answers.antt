@@ -1,7 +1,7 @@
 use Rattle.std.proofs.Common.{◌≡◌, ◌<◌, ◌+◌, [], Some, ℕ, List, length, refl, sym, ap, subst, ◌∙◌}
 use Rattle.inode_events.specs.declared.deed.Deed.TheVariants as deed
 use Rattle.inode_events.specs.declared.told.Told.TheVariants as told
-use Rattle.inode_events.specs.Past.{past}
+use Rattle.inode_events.specs.NewestFirst.{newest_first}
 use Rattle.inode_cell.proofs.Acting.{acts_from}
 use Rattle.inode_cell.proofs.Steps.{holds_on, not_err, written_told}
 use Rattle.inode_pages.specs.Content.{most_bytes, overwritten}
@@ -36,7 +36,7 @@ invariant_of-self c =
     c.self-2.inside.attrs [] b.seen b.seen b.mine b.mine
     h c.enter.ensures.list (c.in-Ok.ensures.ok
     ∙ ap (λ (x : List ℕ). overwritten x c.args.from c.args.bytes.now) h.content
-    ∙ ap (λ (x : List ℕ). overwritten (content (past k.list)) c.args.from x) (sym same))
+    ∙ ap (λ (x : List ℕ). overwritten (content (newest_first k.list)) c.args.from x) (sym same))
     h.attributes (refl, refl)
     (written_told (c.args.from + length copy) (subst (λ (x : List ℕ). most_bytes < c.args.from +
     length x → ⊥) (sym same) (λ h. not_err c.in-Ok.field-0 (c.in-Ok.ensures.too_big.1 h)))))

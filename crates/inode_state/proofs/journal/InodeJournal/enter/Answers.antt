@@ -6,7 +6,7 @@ use Rattle.grow_list.proofs.Own.{slice_get-push}
 use Rattle.inode_events.specs.Callers.{caller_of}
 use Rattle.inode_events.specs.Legal.{EachFollows, Follows, May}
 use Rattle.inode_events.specs.Says.{placed_in, says}
-use Rattle.inode_events.specs.Past.{past}
+use Rattle.inode_events.specs.NewestFirst.{newest_first}
 use Rattle.inode_events.specs.declared.told.Event.{Event}
 use Rattle.inode_state.specs.Facts.{AreFacts}
 use Rattle.inode_state.specs.State.{IsState}
@@ -55,32 +55,36 @@ invariant_of-self c =
     let i = inode_in c.self.inside in
     let e = c.args.event in
     let k = c.self.invariant in
-    let may : May i (past list) e.deed = subst (λ (v : JournalValue). May v.inode (past v.list)
+    let may : May i (newest_first list) e.deed =
+    subst (λ (v : JournalValue). May v.inode (newest_first v.list)
     e.deed) (sym c.self.view_is) c.requires.may in
-    let told : says i (past list) (placed_in e.told) e.deed ≡ Some e.told = subst (λ (v :
-    JournalValue). says v.inode (past v.list) (placed_in e.told) e.deed ≡ Some e.told) (sym
+    let told : says i (newest_first list) (placed_in e.told) e.deed ≡ Some e.told = subst (λ (v :
+    JournalValue). says v.inode (newest_first v.list) (placed_in e.told) e.deed ≡ Some e.told) (sym
     c.self.view_is) c.requires.told in
-    let f : Follows i (past list) e.who e.deed e.told = follows_by i (past list) e.who e.deed
-    e.told k.legal.0 may told in
-    let by : IsBy (caller_of e) e.deed (past list) = subst (λ (v : JournalValue). IsBy (caller_of e)
-    e.deed (past v.list)) (sym c.self.view_is) c.requires.by in
-    let facts : AreFacts i (past list) e c.args.facts.now = subst (λ (v : JournalValue). AreFacts
-    v.inode (past v.list) e c.args.facts.now) (sym c.self.view_is) c.requires.facts in
+    let f : Follows i (newest_first list) e.who e.deed e.told =
+    follows_by i (newest_first list) e.who e.deed e.told k.legal.0 may told in
+    let by : IsBy (caller_of e) e.deed (newest_first list) =
+    subst (λ (v : JournalValue). IsBy (caller_of e)
+    e.deed (newest_first v.list)) (sym c.self.view_is) c.requires.by in
+    let facts : AreFacts i (newest_first list) e c.args.facts.now =
+    subst (λ (v : JournalValue). AreFacts
+    v.inode (newest_first v.list) e c.args.facts.now) (sym c.self.view_is) c.requires.facts in
     let x = c.in-Some.event.now in
     let same : x ≡ e = there list c.push-place.new.self.list e x c.len-place.result
     c.push-place.ensures.list c.len-place.ensures c.in-Some.ensures.entry in
-    let place : c.len-place.result - 1 ≡ length (past list) = omega (
+    let place : c.len-place.result - 1 ≡ length (newest_first list) = omega (
       arith,
       c.len-place.ensures,
       ap length c.push-place.ensures.list,
       length_push list e,
       length_past list,
     ) in
-    let state : IsState i (e ∷ past list) c.advance.new.self =
-    subst (λ (v : Event). IsState i (v ∷ past list) c.advance.new.self) same
-    (c.advance.ensures i (past list) place
-    (subst (λ (v : Event). EachFollows i (v ∷ past list)) (sym same) (f, k.legal.1))
-    (subst (λ (v : Event). AreFacts i (past list) v c.args.facts.now) (sym same) facts) k.state) in
+    let state : IsState i (e ∷ newest_first list) c.advance.new.self =
+    subst (λ (v : Event). IsState i (v ∷ newest_first list) c.advance.new.self) same
+    (c.advance.ensures i (newest_first list) place
+    (subst (λ (v : Event). EachFollows i (v ∷ newest_first list)) (sym same) (f, k.legal.1))
+    (subst (λ (v : Event). AreFacts i (newest_first list) v c.args.facts.now) (sym same) facts)
+    k.state) in
     rw (birth c) (kept_on i c.self.inside.journal c.push-place.new.self c.self.inside.own
     c.self.inside.state c.advance.new.self e c.args.pass.now.number k f by c.requires.number
     c.push-place.ensures.kept.0 c.push-place.ensures.kept.1 (subst

@@ -3,7 +3,7 @@ use Rattle.std.specs.Prelude.{All}
 use Rattle.grow_list.specs.Entries.{entries_of}
 use Rattle.inode_events.specs.Callers.{caller_of}
 use Rattle.inode_events.specs.Legal.{Legal}
-use Rattle.inode_events.specs.Past.{past}
+use Rattle.inode_events.specs.NewestFirst.{newest_first}
 use Rattle.journal_laws.specs.Own.{IsOwned}
 use Rattle.journal_laws.proofs.Looking.{tells}
 use Rattle.journal_laws.specs.OwnLaws.{TellsByMine}
@@ -41,11 +41,13 @@ returns-clause-own c =
 
 pub returns-clause-legal : goal.returns-clause-legal
 returns-clause-legal c =
-    subst (λ (v : JournalValue). Legal v.inode (past v.list)) c.self.view_is c.self.invariant.legal
+    subst (λ (v : JournalValue). Legal v.inode (newest_first v.list)) c.self.view_is
+    c.self.invariant.legal
 
 pub returns-clause-owned : goal.returns-clause-owned
 returns-clause-owned c =
-    subst (λ (v : JournalValue). IsOwned (past v.list)) c.self.view_is c.self.invariant.owned
+    subst (λ (v : JournalValue). IsOwned (newest_first v.list)) c.self.view_is
+    c.self.invariant.owned
 
 pub returns-clause-within : goal.returns-clause-within
 returns-clause-within c =

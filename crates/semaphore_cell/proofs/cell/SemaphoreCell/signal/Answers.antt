@@ -3,7 +3,7 @@ use Rattle.std.proofs.Common.{◌≡◌, ℕ, ◌+◌, ◌-◌, ◌<◌, ◌≤�
 use Rattle.std.specs.Prelude.{nat_lt}
 use Rattle.std.proofs.lemmas.Bool.{lt-ltb}
 use Rattle.grow_list.specs.Shown.{Grown, Passed}
-use Rattle.inode_events.specs.Past.{past}
+use Rattle.inode_events.specs.NewestFirst.{newest_first}
 use Rattle.inode_events.specs.Semaphores.{left, posts}
 use Rattle.inode_events.specs.declared.deed.Deed.TheVariants as deed
 use Rattle.inode_events.specs.declared.told.Event.{Event}
@@ -17,11 +17,11 @@ pub overflow_add-self : goal.overflow_add-self
 overflow_add-self c =
     let small : c.in-Post.sem < 256 = omega arith in
     let is : get_or c.self.inside.left c.in-Post.sem 0
-    ≡ left c.in-Post.sem (past c.self.inside.journal.list) =
+    ≡ left c.in-Post.sem (newest_first c.self.inside.journal.list) =
     c.self.invariant.counts c.in-Post.sem small in
-    let within : posts c.in-Post.sem (past c.self.inside.journal.list) ≤ length
-    (past c.self.inside.journal.list) =
-    posts_within c.in-Post.sem (past c.self.inside.journal.list) in
+    let within : posts c.in-Post.sem (newest_first c.self.inside.journal.list) ≤ length
+    (newest_first c.self.inside.journal.list) =
+    posts_within c.in-Post.sem (newest_first c.self.inside.journal.list) in
     let grown : length c.push-place.new.self.list ≡ length c.self.inside.journal.list + 1 =
     ap length c.push-place.ensures.list ∙ length-append c.self.inside.journal.list _ in
     omega (
@@ -40,10 +40,10 @@ invariant_of-self c =
     IsSemaphores-more c.self.inside _ c.args.who (deed.Post c.in-Post.sem) c.args.pass.now.number
     c.self.invariant refl refl
     c.requires.number (omega (arith, c.push-place.ensures.number, c.push-place.ensures.same_pass.1))
-    (counts_set c.self.inside.left (λ s. left s (past c.self.inside.journal.list)) _ (λ n. n + 1)
-    c.in-Post.sem _
+    (counts_set c.self.inside.left (λ s. left s (newest_first c.self.inside.journal.list)) _
+    (λ n. n + 1) c.in-Post.sem _
     (omega (arith, c.self.told)) small c.self.invariant.counts
-    (λ s. left_post s c.in-Post.sem c.args.who (past c.self.inside.journal.list)
+    (λ s. left_post s c.in-Post.sem c.args.who (newest_first c.self.inside.journal.list)
     c.self.invariant.legal) refl)
     c.push-place.ensures.list c.push-place.ensures.numbers c.push-place.ensures.kept.0
     c.push-place.ensures.kept.1 refl
@@ -55,16 +55,16 @@ may_wait n some = ap (λ b. cond b (Some told.Done) None) (lt-ltb 0 n some)
 pub invariant_of-self-then-self-sem-gt0 : goal.invariant_of-self-then-self-sem-gt0
 invariant_of-self-then-self-sem-gt0 c =
     let small : c.in-Wait.sem < 256 = omega arith in
-    let some : 0 < left c.in-Wait.sem (past c.self.inside.journal.list) =
+    let some : 0 < left c.in-Wait.sem (newest_first c.self.inside.journal.list) =
     subst (λ (n : ℕ). 0 < n) (c.self.invariant.counts c.in-Wait.sem small) c.if-self-sem-gt0.true in
     IsSemaphores-more c.self.inside _ c.args.who (deed.Wait c.in-Wait.sem) c.args.pass.now.number
     c.self.invariant
     (may_wait _ some) refl c.requires.number
     (omega (arith, c.push.ensures.number, c.push.ensures.same_pass.1))
-    (counts_set c.self.inside.left (λ s. left s (past c.self.inside.journal.list)) _ (λ n. n - 1)
-    c.in-Wait.sem _
+    (counts_set c.self.inside.left (λ s. left s (newest_first c.self.inside.journal.list)) _
+    (λ n. n - 1) c.in-Wait.sem _
     (omega (arith, c.self.told)) small c.self.invariant.counts
-    (λ s. left_wait s c.in-Wait.sem c.args.who (past c.self.inside.journal.list)) refl)
+    (λ s. left_wait s c.in-Wait.sem c.args.who (newest_first c.self.inside.journal.list)) refl)
     c.push.ensures.list c.push.ensures.numbers c.push.ensures.kept.0 c.push.ensures.kept.1 refl
 
 -- the entries of the pass lie within the journal

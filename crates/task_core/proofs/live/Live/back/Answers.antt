@@ -11,9 +11,9 @@ invariant_of-world g c =
     let keep = c.in_ok-parts.ensures.keep in
     let is = sym c.in_ok-parts.ensures.consts in
     record {
-      parts = subst (λ (f : WorldConsts). AreParts f p.stations.items p.book p.sems p.rules) is
+      parts = subst (λ (f : WorldConsts). AreParts f p.world_inodes.items p.book p.sems p.rules) is
           (record {
-            stations = keep.stations.each;
+            world_inodes = keep.world_inodes.each;
             book = keep.book;
             sems = keep.sems;
             rules = keep.rules;

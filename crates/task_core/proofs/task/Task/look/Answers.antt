@@ -18,22 +18,22 @@ look_at_inodes-requires-clause-names c =
     let is : IsTask (consts_in c.world.inside) t =
     look_opens (world_of c.world.inside) c.args.world.now c.args.self.now s.number s.mind
     s.hash_state before s.passes c.world.view_is c.self.view_is c.passes.view_is c.requires in
-    look_names w.settings w.stations.items w.supers.items w.book w.sems w.rules w.tasks s.number
+    look_names w.settings w.world_inodes.items w.supers.items w.book w.sems w.rules w.tasks s.number
     before is.played.passes
 
 pub invariant_of-world : goal.invariant_of-world
 invariant_of-world c =
     let w = c.world.inside.parts in
     record {
-      parts = parts_looked w.settings w.stations.items c.look_at_inodes.new.stations.items
+      parts = parts_looked w.settings w.world_inodes.items c.look_at_inodes.new.world_inodes.items
           w.supers.items w.book
           c.look-2.new.self w.sems c.look.new.self w.rules c.look-3.new.self w.tasks
-          c.look_at_inodes.ensures.stations c.look-2.ensures.list c.look.ensures.list
+          c.look_at_inodes.ensures.world_inodes c.look-2.ensures.list c.look.ensures.list
           c.look-3.ensures.base c.look-3.ensures.list c.world.invariant.parts;
-      spares = spares_looked w.settings w.stations.items c.look_at_inodes.new.stations.items
+      spares = spares_looked w.settings w.world_inodes.items c.look_at_inodes.new.world_inodes.items
           w.supers.items w.book
           c.look-2.new.self w.sems c.look.new.self w.rules c.look-3.new.self w.tasks
-          c.look_at_inodes.ensures.stations c.look-2.ensures.list c.look.ensures.list
+          c.look_at_inodes.ensures.world_inodes c.look-2.ensures.list c.look.ensures.list
           c.look-3.ensures.base c.look-3.ensures.list w.spares.items
           c.world.invariant.spares;
     }
@@ -57,10 +57,10 @@ returns-clause-made c =
       book = c.look-2.new.pass;
       rules = c.look-3.new.pass;
     } in
-    looked_made w.settings w.stations.items c.look_at_inodes.new.stations.items w.supers.items
-    w.book
+    looked_made w.settings w.world_inodes.items c.look_at_inodes.new.world_inodes.items
+    w.supers.items w.book
     c.look-2.new.self w.sems c.look.new.self w.rules c.look-3.new.self w.tasks
-    c.look_at_inodes.ensures.stations c.look-2.ensures.list c.look.ensures.list
+    c.look_at_inodes.ensures.world_inodes c.look-2.ensures.list c.look.ensures.list
     c.look-3.ensures.base c.look-3.ensures.list
     t after c.world.invariant.parts is c.look_at_inodes.ensures.passes
     (record {
@@ -107,10 +107,10 @@ returns-clause-still c =
       book = c.look-2.new.pass;
       rules = c.look-3.new.pass;
     } in
-    looked_still w.settings w.stations.items c.look_at_inodes.new.stations.items w.supers.items
-    w.book
+    looked_still w.settings w.world_inodes.items c.look_at_inodes.new.world_inodes.items
+    w.supers.items w.book
     c.look-2.new.self w.sems c.look.new.self w.rules c.look-3.new.self w.tasks
-    c.look_at_inodes.ensures.stations c.look-2.ensures.list c.look.ensures.list
+    c.look_at_inodes.ensures.world_inodes c.look-2.ensures.list c.look.ensures.list
     c.look-3.ensures.base c.look-3.ensures.list
     t after c.world.invariant.parts is c.look_at_inodes.ensures.passes
     (record {
@@ -141,19 +141,19 @@ returns-clause-still c =
 pub returns-clause-consts : goal.returns-clause-consts
 returns-clause-consts c =
     let w = c.world.inside.parts in
-    consts_looked w.settings w.stations.items c.look_at_inodes.new.stations.items w.supers.items
-    w.book
+    consts_looked w.settings w.world_inodes.items c.look_at_inodes.new.world_inodes.items
+    w.supers.items w.book
     c.look-2.new.self w.sems c.look.new.self w.rules c.look-3.new.self w.tasks
-    c.look_at_inodes.ensures.stations c.look-2.ensures.list c.look.ensures.list
+    c.look_at_inodes.ensures.world_inodes c.look-2.ensures.list c.look.ensures.list
     c.look-3.ensures.base c.look-3.ensures.list
     ∙ ap (λ (x : WorldValue). x.consts) c.world.view_is
 
 pub returns-clause-state : goal.returns-clause-state
 returns-clause-state c =
     let w = c.world.inside.parts in
-    state_looked w.settings w.stations.items c.look_at_inodes.new.stations.items w.supers.items
-    w.book
+    state_looked w.settings w.world_inodes.items c.look_at_inodes.new.world_inodes.items
+    w.supers.items w.book
     c.look-2.new.self w.sems c.look.new.self w.rules c.look-3.new.self w.tasks
-    c.look_at_inodes.ensures.stations c.look-2.ensures.list c.look.ensures.list
+    c.look_at_inodes.ensures.world_inodes c.look-2.ensures.list c.look.ensures.list
     c.look-3.ensures.base c.look-3.ensures.list
     ∙ ap (λ (x : WorldValue). x.state) c.world.view_is

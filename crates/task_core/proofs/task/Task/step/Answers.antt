@@ -15,15 +15,15 @@ returns-in_err-reserve-clause-still c =
     c.reserve.ensures.same
     (subst (λ (x : Tasked). IsTask c.args.world.now.consts x) (sym c.self.view_is) c.requires)
 
-pub reach-requires : goal.reach-requires
-reach-requires c =
+pub try_step-requires : goal.try_step-requires
+try_step-requires c =
     let t = c.self.inside in
     task_same c.args.world.now.consts t.number t.mind c.reserve.new.self t.hash_state t.passes
     c.reserve.ensures.same
     (subst (λ (x : Tasked). IsTask c.args.world.now.consts x) (sym c.self.view_is) c.requires)
 
-pub returns-in_err-reach-clause-still : goal.returns-in_err-reach-clause-still
-returns-in_err-reach-clause-still c =
+pub returns-in_err-try_step-clause-still : goal.returns-in_err-try_step-clause-still
+returns-in_err-try_step-clause-still c =
     let s = c.self.inside in
     let t : Tasked =
     record {
@@ -36,9 +36,9 @@ returns-in_err-reach-clause-still c =
     task_same c.args.world.now.consts s.number s.mind c.reserve.new.self s.hash_state s.passes
     c.reserve.ensures.same
     (subst (λ (x : Tasked). IsTask c.args.world.now.consts x) (sym c.self.view_is) c.requires) in
-    left_still c.args.world.now.consts c.reach.new.self.consts t c.args.world.now.state
-    c.reach.new.self.state c.reach.new.passes c.reach.new.hash_state c.reach.ensures.consts is
-    c.in_err-reach.ensures.reaches.plays
+    left_still c.args.world.now.consts c.try_step.new.self.consts t c.args.world.now.state
+    c.try_step.new.self.state c.try_step.new.passes c.try_step.new.hash_state
+    c.try_step.ensures.consts is c.in_err-try_step.ensures.reaches.plays
 
 pub returns-clause-still : goal.returns-clause-still
 returns-clause-still c =
@@ -56,32 +56,36 @@ returns-clause-still c =
     (subst (λ (x : Tasked). IsTask c.args.world.now.consts x) (sym c.self.view_is) c.requires) in
     let mode : c.world.inside.parts.settings.mode ≡ mode_in c.args.world.now.consts =
     ap (λ (x : WorldValue). x.consts.settings.mode) c.world.view_is
-    ∙ ap (λ (x : WorldConsts). x.settings.mode) c.reach.ensures.consts in
+    ∙ ap (λ (x : WorldConsts). x.settings.mode) c.try_step.ensures.consts in
     elim c.match-branch-3.branch [
       | in-Over w ↦
-          over_still c.args.world.now.consts c.reach.new.self.consts t c.args.world.now.state
-          c.reach.new.self.state c.reach.new.passes c.reach.new.hash_state c.reach.ensures.consts is
-          c.reach.result c.in_ok-reach.field-0 c.match-branch-3.self
-          c.in_ok-reach.was w.in-Over.is c.reach.ensures.reaches w.self-is
+          over_still c.args.world.now.consts c.try_step.new.self.consts t c.args.world.now.state
+          c.try_step.new.self.state c.try_step.new.passes c.try_step.new.hash_state
+          c.try_step.ensures.consts is
+          c.try_step.result c.in_ok-try_step.field-0 c.match-branch-3.self
+          c.in_ok-try_step.was w.in-Over.is c.try_step.ensures.reaches w.self-is
       | in-Blocked w ↦
-          blocked_still c.args.world.now.consts c.reach.new.self.consts t c.args.world.now.state
-          c.reach.new.self.state c.reach.new.passes c.reach.new.hash_state c.reach.ensures.consts is
-          c.reach.result c.in_ok-reach.field-0 c.match-branch-3.self
-          c.in_ok-reach.was w.in-Blocked.is c.reach.ensures.reaches w.self-is
+          blocked_still c.args.world.now.consts c.try_step.new.self.consts t c.args.world.now.state
+          c.try_step.new.self.state c.try_step.new.passes c.try_step.new.hash_state
+          c.try_step.ensures.consts is
+          c.try_step.result c.in_ok-try_step.field-0 c.match-branch-3.self
+          c.in_ok-try_step.was w.in-Blocked.is c.try_step.ensures.reaches w.self-is
       | in-Told+in-Image-1 w ↦
-          moved_still c.args.world.now.consts c.reach.new.self.consts t c.args.world.now.state
-          c.reach.new.self.state c.reach.new.passes c.reach.new.hash_state c.reach.ensures.consts is
-          c.reach.result c.in_ok-reach.field-0 c.match-branch-3.self w.in-Told.answered
+          moved_still c.args.world.now.consts c.try_step.new.self.consts t c.args.world.now.state
+          c.try_step.new.self.state c.try_step.new.passes c.try_step.new.hash_state
+          c.try_step.ensures.consts is
+          c.try_step.result c.in_ok-try_step.field-0 c.match-branch-3.self w.in-Told.answered
           c.world.inside.parts.settings.mode (option_copied w.as_ref.result) w.hear.new.self
-          c.in_ok-reach.was w.in-Told.is c.reach.ensures.reaches w.self-is mode
+          c.in_ok-try_step.was w.in-Told.is c.try_step.ensures.reaches w.self-is mode
           w.as_ref.ensures.value w.hear.ensures.program w.hear.ensures.thought
           w.hear.ensures.checked
       | in-Told+in-Held-1 w ↦
-          moved_still c.args.world.now.consts c.reach.new.self.consts t c.args.world.now.state
-          c.reach.new.self.state c.reach.new.passes c.reach.new.hash_state c.reach.ensures.consts is
-          c.reach.result c.in_ok-reach.field-0 c.match-branch-3.self w.in-Told.answered
+          moved_still c.args.world.now.consts c.try_step.new.self.consts t c.args.world.now.state
+          c.try_step.new.self.state c.try_step.new.passes c.try_step.new.hash_state
+          c.try_step.ensures.consts is
+          c.try_step.result c.in_ok-try_step.field-0 c.match-branch-3.self w.in-Told.answered
           c.world.inside.parts.settings.mode (option_copied w.as_ref.result) w.hear.new.self
-          c.in_ok-reach.was w.in-Told.is c.reach.ensures.reaches w.self-is mode
+          c.in_ok-try_step.was w.in-Told.is c.try_step.ensures.reaches w.self-is mode
           w.as_ref.ensures.value w.hear.ensures.program w.hear.ensures.thought
           w.hear.ensures.checked
     ]

@@ -7,8 +7,8 @@ use Rattle.task_core.proofs.SharedSteps.{HasRoom, blocked_steps, blocked_with, i
 use Rattle.task_core.proofs.Turns.{blocked_still, left_still, moved_still, over_still, task_same}
 use Rattle.world_model.specs.Tasks.{IsTask, Tasked}
 use Rattle.world_locks.specs.worlds.Plays.{task_after, task_left}
-use Rattle.world_locks.specs.acts.declared.answers.Reached.{Reached}
-use Rattle.world_locks.specs.acts.declared.answers.Reached.TheVariants as reached
+use Rattle.world_locks.specs.acts.declared.answers.TurnResult.{TurnResult}
+use Rattle.world_locks.specs.acts.declared.answers.TurnResult.TheVariants as turn_result
 use Rattle.world_locks.specs.Met.{mines_of, state_seen}
 use Rattle.task_core.proofs.task.Task.step_shared.Goals as goal
 use Rattle.task_core.proofs.task.Task.step_shared.Goals.{in-Image-1, in-Held-1}
@@ -29,16 +29,16 @@ returns-in_err-reserve-clause-err g c =
       ap (λ (x : Tasked). mines_of x.passes) c.self.view_is,
     )
 
-pub reach-requires-after_bounds : goal.reach-requires-after_bounds
-reach-requires-after_bounds g c =
+pub try_step-requires-after_bounds : goal.try_step-requires-after_bounds
+try_step-requires-after_bounds g c =
     λ κs out.
     let t = c.self.inside in
     task_same g.N.Name.consts t.number t.mind c.reserve.new.self t.hash_state t.passes
     c.reserve.ensures.same
     (subst (λ (x : Tasked). IsTask g.N.Name.consts x) (sym c.self.view_is) c.requires)
 
-pub returns-in_err-reach-clause-still : goal.returns-in_err-reach-clause-still
-returns-in_err-reach-clause-still g c =
+pub returns-in_err-try_step-clause-still : goal.returns-in_err-try_step-clause-still
+returns-in_err-try_step-clause-still g c =
     let s = c.self.inside in
     let t : Tasked =
     record {
@@ -51,17 +51,17 @@ returns-in_err-reach-clause-still g c =
     task_same g.N.Name.consts s.number s.mind c.reserve.new.self s.hash_state s.passes
     c.reserve.ensures.same
     (subst (λ (x : Tasked). IsTask g.N.Name.consts x) (sym c.self.view_is) c.requires) in
-    left_still g.N.Name.consts g.N.Name.consts t c.in_err-reach.ensures.old
-    (state_seen c.reach.new.passes) c.reach.new.passes c.reach.new.hash_state refl is
-    c.in_err-reach.ensures.reaches.plays
+    left_still g.N.Name.consts g.N.Name.consts t c.in_err-try_step.ensures.old
+    (state_seen c.try_step.new.passes) c.try_step.new.passes c.try_step.new.hash_state refl is
+    c.in_err-try_step.ensures.reaches.plays
 
-pub returns-in_err-reach-clause-err : goal.returns-in_err-reach-clause-err
-returns-in_err-reach-clause-err g c =
-    on_err c.from_residual-in_err-reach.result
+pub returns-in_err-try_step-clause-err : goal.returns-in_err-try_step-clause-err
+returns-in_err-try_step-clause-err g c =
+    on_err c.from_residual-in_err-try_step.result
     ((c.reserve.new.self.thought ≡ c.args.self.now.mind.thought)
-    × (mines_of c.reach.new.passes ≡ mines_of c.args.self.now.passes)) (
+    × (mines_of c.try_step.new.passes ≡ mines_of c.args.self.now.passes)) (
       c.reserve.ensures.same.thought ∙ ap (λ (x : Tasked). x.mind.thought) c.self.view_is,
-      c.in_err-reach.ensures.idle tt ∙ ap (λ (x : Tasked). mines_of x.passes) c.self.view_is,
+      c.in_err-try_step.ensures.idle tt ∙ ap (λ (x : Tasked). mines_of x.passes) c.self.view_is,
     )
 
 pub returns-in-Over-clause-still : goal.returns-in-Over-clause-still
@@ -78,10 +78,11 @@ returns-in-Over-clause-still g c =
     task_same g.N.Name.consts s.number s.mind c.reserve.new.self s.hash_state s.passes
     c.reserve.ensures.same
     (subst (λ (x : Tasked). IsTask g.N.Name.consts x) (sym c.self.view_is) c.requires) in
-    over_still g.N.Name.consts g.N.Name.consts t c.reach.ensures.old
-    (state_seen c.reach.new.passes) c.reach.new.passes c.reach.new.hash_state refl is
-    c.reach.result c.in_ok-reach.field-0 (task_left t c.reach.new.passes c.reach.new.hash_state)
-    c.in_ok-reach.was c.in-Over.is c.reach.ensures.reaches refl
+    over_still g.N.Name.consts g.N.Name.consts t c.try_step.ensures.old
+    (state_seen c.try_step.new.passes) c.try_step.new.passes c.try_step.new.hash_state refl is
+    c.try_step.result c.in_ok-try_step.field-0
+    (task_left t c.try_step.new.passes c.try_step.new.hash_state)
+    c.in_ok-try_step.was c.in-Over.is c.try_step.ensures.reaches refl
 
 pub returns-in-Over-clause-go : goal.returns-in-Over-clause-go
 returns-in-Over-clause-go g c =
@@ -102,10 +103,11 @@ returns-in-Over-clause-go g c =
           ∙ ap (λ (x : Tasked). x.mind.thought) c.self.view_is;
       passes = ap (λ (x : Tasked). x.passes) c.self.view_is;
     } in
-    let t2 : Tasked = task_left t c.reach.new.passes c.reach.new.hash_state in
+    let t2 : Tasked = task_left t c.try_step.new.passes c.try_step.new.hash_state in
     steps_with g.N.Name.consts c.args.self.now t t2 room turns.Done
-    (over_steps g.N.Name.consts t t2 c.reach.new.passes c.reach.new.hash_state c.reach.result
-    c.in_ok-reach.field-0 c.in_ok-reach.was c.in-Over.is c.reach.ensures refl)
+    (over_steps g.N.Name.consts t t2 c.try_step.new.passes c.try_step.new.hash_state
+    c.try_step.result
+    c.in_ok-try_step.field-0 c.in_ok-try_step.was c.in-Over.is c.try_step.ensures refl)
 
 pub returns-in-Over-clause-idle : goal.returns-in-Over-clause-idle
 returns-in-Over-clause-idle g c =
@@ -126,10 +128,10 @@ returns-in-Over-clause-idle g c =
           ∙ ap (λ (x : Tasked). x.mind.thought) c.self.view_is;
       passes = ap (λ (x : Tasked). x.passes) c.self.view_is;
     } in
-    let t2 : Tasked = task_left t c.reach.new.passes c.reach.new.hash_state in
-    λ still. idle_adds g.N.Name.consts c.args.self.now t t2 room c.reach.new.passes
-    c.reach.new.hash_state c.reach.result reached.Over
-    (c.in_ok-reach.was ∙ ap (λ (z : Reached). Ok z) c.in-Over.is) c.reach.ensures tt refl
+    let t2 : Tasked = task_left t c.try_step.new.passes c.try_step.new.hash_state in
+    λ still. idle_adds g.N.Name.consts c.args.self.now t t2 room c.try_step.new.passes
+    c.try_step.new.hash_state c.try_step.result turn_result.Over
+    (c.in_ok-try_step.was ∙ ap (λ (z : TurnResult). Ok z) c.in-Over.is) c.try_step.ensures tt refl
 
 pub returns-in-Blocked-clause-still : goal.returns-in-Blocked-clause-still
 returns-in-Blocked-clause-still g c =
@@ -145,10 +147,11 @@ returns-in-Blocked-clause-still g c =
     task_same g.N.Name.consts s.number s.mind c.reserve.new.self s.hash_state s.passes
     c.reserve.ensures.same
     (subst (λ (x : Tasked). IsTask g.N.Name.consts x) (sym c.self.view_is) c.requires) in
-    blocked_still g.N.Name.consts g.N.Name.consts t c.reach.ensures.old
-    (state_seen c.reach.new.passes) c.reach.new.passes c.reach.new.hash_state refl is
-    c.reach.result c.in_ok-reach.field-0 (task_left t c.reach.new.passes c.reach.new.hash_state)
-    c.in_ok-reach.was c.in-Blocked.is c.reach.ensures.reaches refl
+    blocked_still g.N.Name.consts g.N.Name.consts t c.try_step.ensures.old
+    (state_seen c.try_step.new.passes) c.try_step.new.passes c.try_step.new.hash_state refl is
+    c.try_step.result c.in_ok-try_step.field-0
+    (task_left t c.try_step.new.passes c.try_step.new.hash_state)
+    c.in_ok-try_step.was c.in-Blocked.is c.try_step.ensures.reaches refl
 
 pub returns-in-Blocked-clause-go : goal.returns-in-Blocked-clause-go
 returns-in-Blocked-clause-go g c =
@@ -169,10 +172,11 @@ returns-in-Blocked-clause-go g c =
           ∙ ap (λ (x : Tasked). x.mind.thought) c.self.view_is;
       passes = ap (λ (x : Tasked). x.passes) c.self.view_is;
     } in
-    let t2 : Tasked = task_left t c.reach.new.passes c.reach.new.hash_state in
+    let t2 : Tasked = task_left t c.try_step.new.passes c.try_step.new.hash_state in
     steps_with g.N.Name.consts c.args.self.now t t2 room turns.Blocked
-    (blocked_steps g.N.Name.consts t t2 c.reach.new.passes c.reach.new.hash_state c.reach.result
-    c.in_ok-reach.field-0 c.in_ok-reach.was c.in-Blocked.is c.reach.ensures refl)
+    (blocked_steps g.N.Name.consts t t2 c.try_step.new.passes c.try_step.new.hash_state
+    c.try_step.result
+    c.in_ok-try_step.field-0 c.in_ok-try_step.was c.in-Blocked.is c.try_step.ensures refl)
 
 pub returns-in-Blocked-clause-blocked : goal.returns-in-Blocked-clause-blocked
 returns-in-Blocked-clause-blocked g c =
@@ -194,9 +198,9 @@ returns-in-Blocked-clause-blocked g c =
       passes = ap (λ (x : Tasked). x.passes) c.self.view_is;
     } in
     λ b. blocked_with g.N.Name.consts c.args.self.now t
-    (task_left t c.reach.new.passes c.reach.new.hash_state) room c.reach.new.passes
-    (c.reach.ensures.blocked
-    (c.in_ok-reach.was ∙ ap (λ (z : Reached). Ok z) c.in-Blocked.is))
+    (task_left t c.try_step.new.passes c.try_step.new.hash_state) room c.try_step.new.passes
+    (c.try_step.ensures.blocked
+    (c.in_ok-try_step.was ∙ ap (λ (z : TurnResult). Ok z) c.in-Blocked.is))
 
 pub returns-in-Blocked-clause-idle : goal.returns-in-Blocked-clause-idle
 returns-in-Blocked-clause-idle g c =
@@ -217,10 +221,11 @@ returns-in-Blocked-clause-idle g c =
           ∙ ap (λ (x : Tasked). x.mind.thought) c.self.view_is;
       passes = ap (λ (x : Tasked). x.passes) c.self.view_is;
     } in
-    let t2 : Tasked = task_left t c.reach.new.passes c.reach.new.hash_state in
-    λ still. idle_adds g.N.Name.consts c.args.self.now t t2 room c.reach.new.passes
-    c.reach.new.hash_state c.reach.result reached.Blocked
-    (c.in_ok-reach.was ∙ ap (λ (z : Reached). Ok z) c.in-Blocked.is) c.reach.ensures tt refl
+    let t2 : Tasked = task_left t c.try_step.new.passes c.try_step.new.hash_state in
+    λ still. idle_adds g.N.Name.consts c.args.self.now t t2 room c.try_step.new.passes
+    c.try_step.new.hash_state c.try_step.result turn_result.Blocked
+    (c.in_ok-try_step.was ∙ ap (λ (z : TurnResult). Ok z) c.in-Blocked.is) c.try_step.ensures
+    tt refl
 
 pub returns-in-Told-clause-still : goal.returns-in-Told-clause-still
 returns-in-Told-clause-still g c =
@@ -237,13 +242,13 @@ returns-in-Told-clause-still g c =
     c.reserve.ensures.same
     (subst (λ (x : Tasked). IsTask g.N.Name.consts x) (sym c.self.view_is) c.requires) in
     let same : c.match-answered.self
-    ≡ task_after t c.hear.new.self c.reach.new.passes c.reach.new.hash_state =
+    ≡ task_after t c.hear.new.self c.try_step.new.passes c.try_step.new.hash_state =
     elim c.match-answered.branch [ in-Image-1 w ↦ w.self-is | in-Held-1 w ↦ w.self-is ] in
-    moved_still g.N.Name.consts g.N.Name.consts t c.reach.ensures.old
-    (state_seen c.reach.new.passes) c.reach.new.passes c.reach.new.hash_state refl is
-    c.reach.result c.in_ok-reach.field-0 c.match-answered.self c.in-Told.answered c.mode.result
-    (option_copied c.as_ref.result) c.hear.new.self
-    c.in_ok-reach.was c.in-Told.is c.reach.ensures.reaches same c.mode.ensures
+    moved_still g.N.Name.consts g.N.Name.consts t c.try_step.ensures.old
+    (state_seen c.try_step.new.passes) c.try_step.new.passes c.try_step.new.hash_state refl is
+    c.try_step.result c.in_ok-try_step.field-0 c.match-answered.self c.in-Told.answered
+    c.mode.result (option_copied c.as_ref.result) c.hear.new.self
+    c.in_ok-try_step.was c.in-Told.is c.try_step.ensures.reaches same c.mode.ensures
     c.as_ref.ensures.value c.hear.ensures.program c.hear.ensures.thought c.hear.ensures.checked
 
 pub returns-in-Told-clause-go : goal.returns-in-Told-clause-go
@@ -266,11 +271,11 @@ returns-in-Told-clause-go g c =
       passes = ap (λ (x : Tasked). x.passes) c.self.view_is;
     } in
     let same : c.match-answered.self
-    ≡ task_after t c.hear.new.self c.reach.new.passes c.reach.new.hash_state =
+    ≡ task_after t c.hear.new.self c.try_step.new.passes c.try_step.new.hash_state =
     elim c.match-answered.branch [ in-Image-1 w ↦ w.self-is | in-Held-1 w ↦ w.self-is ] in
     steps_with g.N.Name.consts c.args.self.now t c.match-answered.self room turns.Moved
-    (moved_steps g.N.Name.consts t c.match-answered.self c.reach.new.passes
-    c.reach.new.hash_state c.reach.result c.in_ok-reach.field-0 c.in-Told.answered c.mode.result
-    (option_copied c.as_ref.result)
-    c.hear.new.self c.in_ok-reach.was c.in-Told.is c.reach.ensures same c.mode.ensures
+    (moved_steps g.N.Name.consts t c.match-answered.self c.try_step.new.passes
+    c.try_step.new.hash_state c.try_step.result c.in_ok-try_step.field-0 c.in-Told.answered
+    c.mode.result (option_copied c.as_ref.result)
+    c.hear.new.self c.in_ok-try_step.was c.in-Told.is c.try_step.ensures same c.mode.ensures
     c.as_ref.ensures.value c.hear.ensures.thought)

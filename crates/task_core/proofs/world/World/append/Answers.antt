@@ -7,8 +7,8 @@ use Rattle.task_core.proofs.world.World.append.Goals as goal
 pub invariant_of-self : goal.invariant_of-self
 invariant_of-self c =
     let w = c.self.inside.parts in
-    let x = with_same_rules w.settings w.stations.items w.supers.items w.book w.sems w.rules w.tasks
-    w.spares.items c.self.invariant.parts c.self.invariant.spares c.append.new.self
+    let x = with_same_rules w.settings w.world_inodes.items w.supers.items w.book w.sems
+    w.rules w.tasks w.spares.items c.self.invariant.parts c.self.invariant.spares c.append.new.self
     c.append.ensures.kept.0 c.in_err-append.ensures.err.0 in
     record { parts = x.0; spares = x.1 }
 
@@ -17,7 +17,7 @@ invariant_of-self-2 c =
     let w = c.self.inside.parts in
     let number : c.passes.inside.rules.number ≡ c.args.who.task =
     ap (λ (q : PassesValue). q.rules.number) c.passes.view_is ∙ c.requires.rules.1 in
-    let x = with_rule w.settings w.stations.items w.supers.items w.book w.sems w.rules w.tasks
+    let x = with_rule w.settings w.world_inodes.items w.supers.items w.book w.sems w.rules w.tasks
     w.spares.items c.self.invariant.parts c.self.invariant.spares c.append.new.self
     (record { who = c.args.who; rule = c.args.rule.now }) c.passes.inside.rules.number
     c.append.ensures.kept c.in_ok-append.ensures.list c.in_ok-append.ensures.numbers number in

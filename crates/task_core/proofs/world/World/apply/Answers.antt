@@ -10,8 +10,8 @@ pub apply_at-requires-clause-name : goal.apply_at-requires-clause-name
 apply_at-requires-clause-name c =
     let w = c.self.inside.parts in
     let q = c.passes.inside in
-    let within : c.args.i < length w.stations.items = omega (arith, c.len.ensures) in
-    (open_found w.settings w.stations.items w.supers.items w.book w.sems w.rules w.tasks
+    let within : c.args.i < length w.world_inodes.items = omega (arith, c.len.ensures) in
+    (open_found w.settings w.world_inodes.items w.supers.items w.book w.sems w.rules w.tasks
     c.self.invariant.parts c.args.self.now c.self.view_is q.inodes.items q.sems q.book q.rules
     c.args.passes.now c.passes.view_is c.args.actor.now.who.task c.requires.passes c.args.i
     c.index_mut.result.now c.index_mut-2.result.now within c.index_mut.ensures.value
@@ -21,8 +21,8 @@ pub apply_at-requires-clause-number : goal.apply_at-requires-clause-number
 apply_at-requires-clause-number c =
     let w = c.self.inside.parts in
     let q = c.passes.inside in
-    let within : c.args.i < length w.stations.items = omega (arith, c.len.ensures) in
-    (open_found w.settings w.stations.items w.supers.items w.book w.sems w.rules w.tasks
+    let within : c.args.i < length w.world_inodes.items = omega (arith, c.len.ensures) in
+    (open_found w.settings w.world_inodes.items w.supers.items w.book w.sems w.rules w.tasks
     c.self.invariant.parts c.args.self.now c.self.view_is q.inodes.items q.sems q.book q.rules
     c.args.passes.now c.passes.view_is c.args.actor.now.who.task c.requires.passes c.args.i
     c.index_mut.result.now c.index_mut-2.result.now within c.index_mut.ensures.value
@@ -32,8 +32,8 @@ pub apply_at-requires-clause-book_name : goal.apply_at-requires-clause-book_name
 apply_at-requires-clause-book_name c =
     let w = c.self.inside.parts in
     let q = c.passes.inside in
-    let within : c.args.i < length w.stations.items = omega (arith, c.len.ensures) in
-    open_book w.settings w.stations.items w.supers.items w.book w.sems w.rules w.tasks
+    let within : c.args.i < length w.world_inodes.items = omega (arith, c.len.ensures) in
+    open_book w.settings w.world_inodes.items w.supers.items w.book w.sems w.rules w.tasks
     c.self.invariant.parts c.args.self.now c.self.view_is q.inodes.items q.sems q.book q.rules
     c.args.passes.now c.passes.view_is c.args.actor.now.who.task c.requires.passes c.args.i
     c.index_mut.result.now c.index_mut-2.result.now within c.index_mut.ensures.value
@@ -43,8 +43,8 @@ pub apply_at-requires-clause-ready : goal.apply_at-requires-clause-ready
 apply_at-requires-clause-ready c =
     let w = c.self.inside.parts in
     let q = c.passes.inside in
-    let within : c.args.i < length w.stations.items = omega (arith, c.len.ensures) in
-    open_ready w.settings w.stations.items w.supers.items w.book w.sems w.rules w.tasks
+    let within : c.args.i < length w.world_inodes.items = omega (arith, c.len.ensures) in
+    open_ready w.settings w.world_inodes.items w.supers.items w.book w.sems w.rules w.tasks
     c.self.invariant.parts c.args.self.now c.self.view_is q.inodes.items q.sems q.book q.rules
     c.args.passes.now c.passes.view_is c.args.actor.now.who.task c.requires.passes c.args.i
     c.index_mut.result.now c.index_mut-2.result.now within c.index_mut.ensures.value
@@ -56,23 +56,25 @@ pub invariant_of-self : goal.invariant_of-self
 invariant_of-self c =
     let w = c.self.inside.parts in
     let q = c.passes.inside in
-    let within : c.args.i < length w.stations.items = omega (arith, c.len.ensures) in
+    let within : c.args.i < length w.world_inodes.items = omega (arith, c.len.ensures) in
     record {
-      parts = done_parts w.settings w.stations.items w.supers.items w.book w.sems w.rules w.tasks
+      parts = done_parts w.settings w.world_inodes.items w.supers.items w.book w.sems
+          w.rules w.tasks
           c.self.invariant.parts c.args.self.now c.self.view_is q.inodes.items q.sems q.book q.rules
           c.args.passes.now c.passes.view_is c.args.actor.now.who.task c.requires.passes c.args.i
           c.index_mut.result.now c.index_mut-2.result.now within c.index_mut.ensures.value
           c.index_mut-2.ensures.value
-          c.apply_at.new.station c.apply_at.new.book c.apply_at.new.pass c.apply_at.new.listed
+          c.apply_at.new.world_inode c.apply_at.new.book c.apply_at.new.pass c.apply_at.new.listed
           c.args.actor.now.who (deed_in c.args.doing) c.args.hash_state.now
           c.apply_at.new.hash_state
           (told_in c.apply_at.result) (does_count _ c.args.doing) refl c.apply_at.ensures.did;
-      spares = done_spares w.settings w.stations.items w.supers.items w.book w.sems w.rules w.tasks
+      spares = done_spares w.settings w.world_inodes.items w.supers.items w.book w.sems
+          w.rules w.tasks
           c.self.invariant.parts c.args.self.now c.self.view_is q.inodes.items q.sems q.book q.rules
           c.args.passes.now c.passes.view_is c.args.actor.now.who.task c.requires.passes c.args.i
           c.index_mut.result.now c.index_mut-2.result.now within c.index_mut.ensures.value
           c.index_mut-2.ensures.value
-          c.apply_at.new.station c.apply_at.new.book c.apply_at.new.pass c.apply_at.new.listed
+          c.apply_at.new.world_inode c.apply_at.new.book c.apply_at.new.pass c.apply_at.new.listed
           c.args.actor.now.who (deed_in c.args.doing) c.args.hash_state.now
           c.apply_at.new.hash_state
           (told_in c.apply_at.result) (does_count _ c.args.doing) refl c.apply_at.ensures.did
@@ -83,13 +85,13 @@ pub returns-clause-consts : goal.returns-clause-consts
 returns-clause-consts c =
     let w = c.self.inside.parts in
     let q = c.passes.inside in
-    let within : c.args.i < length w.stations.items = omega (arith, c.len.ensures) in
-    done_view w.settings w.stations.items w.supers.items w.book w.sems w.rules w.tasks
+    let within : c.args.i < length w.world_inodes.items = omega (arith, c.len.ensures) in
+    done_view w.settings w.world_inodes.items w.supers.items w.book w.sems w.rules w.tasks
     c.self.invariant.parts c.args.self.now c.self.view_is q.inodes.items q.sems q.book q.rules
     c.args.passes.now c.passes.view_is c.args.actor.now.who.task c.requires.passes c.args.i
     c.index_mut.result.now c.index_mut-2.result.now within c.index_mut.ensures.value
     c.index_mut-2.ensures.value
-    c.apply_at.new.station c.apply_at.new.book c.apply_at.new.pass c.apply_at.new.listed
+    c.apply_at.new.world_inode c.apply_at.new.book c.apply_at.new.pass c.apply_at.new.listed
     c.args.actor.now.who (deed_in c.args.doing) c.args.hash_state.now c.apply_at.new.hash_state
     (told_in c.apply_at.result) (does_count _ c.args.doing) refl c.apply_at.ensures.did
 
@@ -97,13 +99,13 @@ pub returns-clause-event : goal.returns-clause-event
 returns-clause-event c =
     let w = c.self.inside.parts in
     let q = c.passes.inside in
-    let within : c.args.i < length w.stations.items = omega (arith, c.len.ensures) in
-    done_event w.settings w.stations.items w.supers.items w.book w.sems w.rules w.tasks
+    let within : c.args.i < length w.world_inodes.items = omega (arith, c.len.ensures) in
+    done_event w.settings w.world_inodes.items w.supers.items w.book w.sems w.rules w.tasks
     c.self.invariant.parts c.args.self.now c.self.view_is q.inodes.items q.sems q.book q.rules
     c.args.passes.now c.passes.view_is c.args.actor.now.who.task c.requires.passes c.args.i
     c.index_mut.result.now c.index_mut-2.result.now within c.index_mut.ensures.value
     c.index_mut-2.ensures.value
-    c.apply_at.new.station c.apply_at.new.book c.apply_at.new.pass c.apply_at.new.listed
+    c.apply_at.new.world_inode c.apply_at.new.book c.apply_at.new.pass c.apply_at.new.listed
     c.args.actor.now.who (deed_in c.args.doing) c.args.hash_state.now c.apply_at.new.hash_state
     (told_in c.apply_at.result) (does_count _ c.args.doing) refl c.apply_at.ensures.did
 
@@ -111,8 +113,8 @@ pub returns-clause-told : goal.returns-clause-told
 returns-clause-told c =
     let w = c.self.inside.parts in
     let q = c.passes.inside in
-    let within : c.args.i < length w.stations.items = omega (arith, c.len.ensures) in
-    done_said w.settings w.stations.items w.supers.items w.book w.sems w.rules w.tasks
+    let within : c.args.i < length w.world_inodes.items = omega (arith, c.len.ensures) in
+    done_said w.settings w.world_inodes.items w.supers.items w.book w.sems w.rules w.tasks
     c.self.invariant.parts c.args.self.now c.self.view_is q.inodes.items q.sems q.book q.rules
     c.args.passes.now c.passes.view_is c.args.actor.now.who.task c.requires.passes c.args.i
     c.index_mut.result.now c.index_mut-2.result.now within c.index_mut.ensures.value

@@ -9,32 +9,32 @@ use Rattle.task_core.proofs.world.World.check.Goals as goal
 pub look-requires : goal.look-requires
 look-requires c =
     let w = c.self.inside.parts in
-    let s = c.station.inside in
-    let within : c.args.i < length w.stations.items = omega (arith, c.len.ensures) in
-    inspect_rules w.settings w.stations.items w.supers.items w.book w.sems w.rules w.tasks
-    c.self.invariant.parts c.args.i s.cell s.rules s.place c.index_mut-station.result.now
-    c.station.view_is within c.index_mut-station.ensures.value
+    let s = c.world_inode.inside in
+    let within : c.args.i < length w.world_inodes.items = omega (arith, c.len.ensures) in
+    inspect_rules w.settings w.world_inodes.items w.supers.items w.book w.sems w.rules w.tasks
+    c.self.invariant.parts c.args.i s.cell s.rules s.place c.index_mut-world_inode.result.now
+    c.world_inode.view_is within c.index_mut-world_inode.ensures.value
 
 pub index-place-requires : goal.index-place-requires
 index-place-requires c =
     let w = c.self.inside.parts in
-    let s = c.station.inside in
-    let within : c.args.i < length w.stations.items = omega (arith, c.len.ensures) in
+    let s = c.world_inode.inside in
+    let within : c.args.i < length w.world_inodes.items = omega (arith, c.len.ensures) in
     let h : s.place < length w.supers.items =
-    inspect_place w.settings w.stations.items w.supers.items w.book w.sems w.rules w.tasks
-    c.self.invariant.parts c.args.i s.cell s.rules s.place c.index_mut-station.result.now
-    c.station.view_is within c.index_mut-station.ensures.value in
+    inspect_place w.settings w.world_inodes.items w.supers.items w.book w.sems w.rules w.tasks
+    c.self.invariant.parts c.args.i s.cell s.rules s.place c.index_mut-world_inode.result.now
+    c.world_inode.view_is within c.index_mut-world_inode.ensures.value in
     omega (arith, w.supers.ok)
 
 pub check_at-requires-clause-name : goal.check_at-requires-clause-name
 check_at-requires-clause-name c =
     let w = c.self.inside.parts in
-    let s = c.station.inside in
-    let within : c.args.i < length w.stations.items = omega (arith, c.len.ensures) in
+    let s = c.world_inode.inside in
+    let within : c.args.i < length w.world_inodes.items = omega (arith, c.len.ensures) in
     let p = c.passes.inside in
-    (inspect_found w.settings w.stations.items w.supers.items w.book w.sems w.rules w.tasks
-    c.self.invariant.parts c.args.i s.cell s.rules s.place c.index_mut-station.result.now
-    c.station.view_is within c.index_mut-station.ensures.value
+    (inspect_found w.settings w.world_inodes.items w.supers.items w.book w.sems w.rules w.tasks
+    c.self.invariant.parts c.args.i s.cell s.rules s.place c.index_mut-world_inode.result.now
+    c.world_inode.view_is within c.index_mut-world_inode.ensures.value
     c.args.self.now c.self.view_is p.inodes.items p.sems p.book p.rules c.args.passes.now
     c.passes.view_is c.args.actor.now.who.task c.requires.passes c.index_mut.result.now
     c.index_mut.ensures.value).0
@@ -42,12 +42,12 @@ check_at-requires-clause-name c =
 pub check_at-requires-clause-number : goal.check_at-requires-clause-number
 check_at-requires-clause-number c =
     let w = c.self.inside.parts in
-    let s = c.station.inside in
-    let within : c.args.i < length w.stations.items = omega (arith, c.len.ensures) in
+    let s = c.world_inode.inside in
+    let within : c.args.i < length w.world_inodes.items = omega (arith, c.len.ensures) in
     let p = c.passes.inside in
-    (inspect_found w.settings w.stations.items w.supers.items w.book w.sems w.rules w.tasks
-    c.self.invariant.parts c.args.i s.cell s.rules s.place c.index_mut-station.result.now
-    c.station.view_is within c.index_mut-station.ensures.value
+    (inspect_found w.settings w.world_inodes.items w.supers.items w.book w.sems w.rules w.tasks
+    c.self.invariant.parts c.args.i s.cell s.rules s.place c.index_mut-world_inode.result.now
+    c.world_inode.view_is within c.index_mut-world_inode.ensures.value
     c.args.self.now c.self.view_is p.inodes.items p.sems p.book p.rules c.args.passes.now
     c.passes.view_is c.args.actor.now.who.task c.requires.passes c.index_mut.result.now
     c.index_mut.ensures.value).1
@@ -55,12 +55,12 @@ check_at-requires-clause-number c =
 pub check_at-requires-clause-book_name : goal.check_at-requires-clause-book_name
 check_at-requires-clause-book_name c =
     let w = c.self.inside.parts in
-    let s = c.station.inside in
-    let within : c.args.i < length w.stations.items = omega (arith, c.len.ensures) in
+    let s = c.world_inode.inside in
+    let within : c.args.i < length w.world_inodes.items = omega (arith, c.len.ensures) in
     let p = c.passes.inside in
-    inspect_book w.settings w.stations.items w.supers.items w.book w.sems w.rules w.tasks
-    c.self.invariant.parts c.args.i s.cell s.rules s.place c.index_mut-station.result.now
-    c.station.view_is within c.index_mut-station.ensures.value
+    inspect_book w.settings w.world_inodes.items w.supers.items w.book w.sems w.rules w.tasks
+    c.self.invariant.parts c.args.i s.cell s.rules s.place c.index_mut-world_inode.result.now
+    c.world_inode.view_is within c.index_mut-world_inode.ensures.value
     c.args.self.now c.self.view_is p.inodes.items p.sems p.book p.rules c.args.passes.now
     c.passes.view_is c.args.actor.now.who.task c.requires.passes c.index_mut.result.now
     c.index_mut.ensures.value
@@ -68,12 +68,12 @@ check_at-requires-clause-book_name c =
 pub check_at-requires-clause-ready : goal.check_at-requires-clause-ready
 check_at-requires-clause-ready c =
     let w = c.self.inside.parts in
-    let s = c.station.inside in
-    let within : c.args.i < length w.stations.items = omega (arith, c.len.ensures) in
+    let s = c.world_inode.inside in
+    let within : c.args.i < length w.world_inodes.items = omega (arith, c.len.ensures) in
     let p = c.passes.inside in
-    inspect_may w.settings w.stations.items w.supers.items w.book w.sems w.rules w.tasks
-    c.self.invariant.parts c.args.i s.cell s.rules s.place c.index_mut-station.result.now
-    c.station.view_is within c.index_mut-station.ensures.value
+    inspect_may w.settings w.world_inodes.items w.supers.items w.book w.sems w.rules w.tasks
+    c.self.invariant.parts c.args.i s.cell s.rules s.place c.index_mut-world_inode.result.now
+    c.world_inode.view_is within c.index_mut-world_inode.ensures.value
     c.args.self.now c.self.view_is p.inodes.items p.sems p.book p.rules c.args.passes.now
     c.passes.view_is c.args.actor.now.who.task c.requires.passes c.index_mut.result.now
     c.index_mut.ensures.value
@@ -83,8 +83,8 @@ check_at-requires-clause-ready c =
 pub invariant_of-self : goal.invariant_of-self
 invariant_of-self c =
     let w = c.self.inside.parts in
-    let s = c.station.inside in
-    let within : c.args.i < length w.stations.items = omega (arith, c.len.ensures) in
+    let s = c.world_inode.inside in
+    let within : c.args.i < length w.world_inodes.items = omega (arith, c.len.ensures) in
     let p = c.passes.inside in
     let first : RulesLooked w.rules c.look.new.self s.rules c.look.new.pass =
     record {
@@ -111,27 +111,27 @@ invariant_of-self c =
       };
     } in
     record {
-      parts = inspected_parts w.settings w.stations.items w.supers.items w.book w.sems w.rules
+      parts = inspected_parts w.settings w.world_inodes.items w.supers.items w.book w.sems w.rules
           w.tasks
-          c.self.invariant.parts c.args.i s.cell s.rules s.place c.index_mut-station.result.now
-          c.station.view_is within c.index_mut-station.ensures.value
+          c.self.invariant.parts c.args.i s.cell s.rules s.place c.index_mut-world_inode.result.now
+          c.world_inode.view_is within c.index_mut-world_inode.ensures.value
           c.args.self.now c.self.view_is p.inodes.items p.sems p.book p.rules c.args.passes.now
           c.passes.view_is c.args.actor.now.who.task c.requires.passes c.index_mut.result.now
           c.index_mut.ensures.value
           c.look.new.self c.look-2.new.self c.look.new.pass c.look-2.new.pass first second
-          c.check_at.new.station c.check_at.new.book c.check_at.new.pass c.check_at.new.listed
+          c.check_at.new.world_inode c.check_at.new.book c.check_at.new.pass c.check_at.new.listed
           c.args.actor.now.who refl c.args.actor.now.cred.now c.args.asked c.index-place.result.now
           c.rules.result.now c.check_at.result c.rules.ensures c.index-place.ensures
           c.check_at.ensures.did c.check_at.ensures.told;
-      spares = inspected_spares w.settings w.stations.items w.supers.items w.book w.sems
+      spares = inspected_spares w.settings w.world_inodes.items w.supers.items w.book w.sems
           w.rules w.tasks
-          c.self.invariant.parts c.args.i s.cell s.rules s.place c.index_mut-station.result.now
-          c.station.view_is within c.index_mut-station.ensures.value
+          c.self.invariant.parts c.args.i s.cell s.rules s.place c.index_mut-world_inode.result.now
+          c.world_inode.view_is within c.index_mut-world_inode.ensures.value
           c.args.self.now c.self.view_is p.inodes.items p.sems p.book p.rules c.args.passes.now
           c.passes.view_is c.args.actor.now.who.task c.requires.passes c.index_mut.result.now
           c.index_mut.ensures.value
           c.look.new.self c.look-2.new.self c.look.new.pass c.look-2.new.pass first second
-          c.check_at.new.station c.check_at.new.book c.check_at.new.pass c.check_at.new.listed
+          c.check_at.new.world_inode c.check_at.new.book c.check_at.new.pass c.check_at.new.listed
           c.args.actor.now.who refl c.args.actor.now.cred.now c.args.asked c.index-place.result.now
           c.rules.result.now c.check_at.result c.rules.ensures c.index-place.ensures
           c.check_at.ensures.did c.check_at.ensures.told
@@ -141,8 +141,8 @@ invariant_of-self c =
 pub returns-clause-consts : goal.returns-clause-consts
 returns-clause-consts c =
     let w = c.self.inside.parts in
-    let s = c.station.inside in
-    let within : c.args.i < length w.stations.items = omega (arith, c.len.ensures) in
+    let s = c.world_inode.inside in
+    let within : c.args.i < length w.world_inodes.items = omega (arith, c.len.ensures) in
     let p = c.passes.inside in
     let first : RulesLooked w.rules c.look.new.self s.rules c.look.new.pass =
     record {
@@ -168,14 +168,14 @@ returns-clause-consts c =
         pass = c.look-2.ensures.same_pass;
       };
     } in
-    inspected_consts w.settings w.stations.items w.supers.items w.book w.sems w.rules w.tasks
-    c.self.invariant.parts c.args.i s.cell s.rules s.place c.index_mut-station.result.now
-    c.station.view_is within c.index_mut-station.ensures.value
+    inspected_consts w.settings w.world_inodes.items w.supers.items w.book w.sems w.rules w.tasks
+    c.self.invariant.parts c.args.i s.cell s.rules s.place c.index_mut-world_inode.result.now
+    c.world_inode.view_is within c.index_mut-world_inode.ensures.value
     c.args.self.now c.self.view_is p.inodes.items p.sems p.book p.rules c.args.passes.now
     c.passes.view_is c.args.actor.now.who.task c.requires.passes c.index_mut.result.now
     c.index_mut.ensures.value
     c.look.new.self c.look-2.new.self c.look.new.pass c.look-2.new.pass first second
-    c.check_at.new.station c.check_at.new.book c.check_at.new.pass c.check_at.new.listed
+    c.check_at.new.world_inode c.check_at.new.book c.check_at.new.pass c.check_at.new.listed
     c.args.actor.now.who refl c.args.actor.now.cred.now c.args.asked c.index-place.result.now
     c.rules.result.now c.check_at.result c.rules.ensures c.index-place.ensures
     c.check_at.ensures.did c.check_at.ensures.told
@@ -183,8 +183,8 @@ returns-clause-consts c =
 pub returns-clause-check : goal.returns-clause-check
 returns-clause-check c =
     let w = c.self.inside.parts in
-    let s = c.station.inside in
-    let within : c.args.i < length w.stations.items = omega (arith, c.len.ensures) in
+    let s = c.world_inode.inside in
+    let within : c.args.i < length w.world_inodes.items = omega (arith, c.len.ensures) in
     let p = c.passes.inside in
     let first : RulesLooked w.rules c.look.new.self s.rules c.look.new.pass =
     record {
@@ -210,14 +210,14 @@ returns-clause-check c =
         pass = c.look-2.ensures.same_pass;
       };
     } in
-    inspected_check w.settings w.stations.items w.supers.items w.book w.sems w.rules w.tasks
-    c.self.invariant.parts c.args.i s.cell s.rules s.place c.index_mut-station.result.now
-    c.station.view_is within c.index_mut-station.ensures.value
+    inspected_check w.settings w.world_inodes.items w.supers.items w.book w.sems w.rules w.tasks
+    c.self.invariant.parts c.args.i s.cell s.rules s.place c.index_mut-world_inode.result.now
+    c.world_inode.view_is within c.index_mut-world_inode.ensures.value
     c.args.self.now c.self.view_is p.inodes.items p.sems p.book p.rules c.args.passes.now
     c.passes.view_is c.args.actor.now.who.task c.requires.passes c.index_mut.result.now
     c.index_mut.ensures.value
     c.look.new.self c.look-2.new.self c.look.new.pass c.look-2.new.pass first second
-    c.check_at.new.station c.check_at.new.book c.check_at.new.pass c.check_at.new.listed
+    c.check_at.new.world_inode c.check_at.new.book c.check_at.new.pass c.check_at.new.listed
     c.args.actor.now.who refl c.args.actor.now.cred.now c.args.asked c.index-place.result.now
     c.rules.result.now c.check_at.result c.rules.ensures c.index-place.ensures
     c.check_at.ensures.did c.check_at.ensures.told

@@ -1,6 +1,6 @@
 -- The lists of a world belong to its constants.
 use Rattle.std.proofs.Common.{◌∙◌, ap, subst}
-use Rattle.task_core.proofs.Closing.{are_rules, are_signals, are_stations, is_book}
+use Rattle.task_core.proofs.Closing.{are_rules, are_signals, are_world_inodes, is_book}
 use Rattle.world_model.specs.WorldConsts.{WorldConsts}
 use Rattle.world_model.specs.World.{WorldValue}
 use Rattle.world_close.specs.Closed.{AreSpares}
@@ -14,13 +14,13 @@ new-requires-after_bounds g c =
     let is = ap (λ (v : WorldValue). v.consts) c.self.view_is ∙ c.requires in
     let parts = c.self.invariant.parts in
     record {
-      stations = are_stations w.settings w.stations.items w.supers.items w.book w.sems w.rules
-          w.tasks consts is parts;
-      book = is_book w.settings w.stations.items w.supers.items w.book w.sems w.rules w.tasks
+      world_inodes = are_world_inodes w.settings w.world_inodes.items w.supers.items w.book
+          w.sems w.rules w.tasks consts is parts;
+      book = is_book w.settings w.world_inodes.items w.supers.items w.book w.sems w.rules w.tasks
           consts is parts;
-      sems = are_signals w.settings w.stations.items w.supers.items w.book w.sems w.rules w.tasks
-          consts is parts;
-      rules = are_rules w.settings w.stations.items w.supers.items w.book w.sems w.rules w.tasks
+      sems = are_signals w.settings w.world_inodes.items w.supers.items w.book w.sems
+          w.rules w.tasks consts is parts;
+      rules = are_rules w.settings w.world_inodes.items w.supers.items w.book w.sems w.rules w.tasks
           consts is parts;
       spares = subst (λ (f : WorldConsts). AreSpares f w.spares.items) is c.self.invariant.spares;
       supers = ap (λ (f : WorldConsts). f.supers) is;

@@ -6,7 +6,7 @@ use Rattle.task_core.proofs.world.World.signal.Goals as goal
 pub invariant_of-self : goal.invariant_of-self
 invariant_of-self c =
     let w = c.self.inside.parts in
-    let x = with_sems w.settings w.stations.items w.supers.items w.book w.sems w.rules w.tasks
+    let x = with_sems w.settings w.world_inodes.items w.supers.items w.book w.sems w.rules w.tasks
     w.spares.items c.self.invariant.parts c.self.invariant.spares c.reserve.new.self
     c.reserve.ensures.list.name c.reserve.ensures.list.callers in
     record { parts = x.0; spares = x.1 }
@@ -14,7 +14,7 @@ invariant_of-self c =
 pub invariant_of-self-2 : goal.invariant_of-self-2
 invariant_of-self-2 c =
     let w = c.self.inside.parts in
-    let x = with_sems w.settings w.stations.items w.supers.items w.book w.sems w.rules w.tasks
+    let x = with_sems w.settings w.world_inodes.items w.supers.items w.book w.sems w.rules w.tasks
     w.spares.items c.self.invariant.parts c.self.invariant.spares c.signal.new.self
     (c.signal.ensures.kept.0 ∙ c.reserve.ensures.list.name)
     (c.signal.ensures.kept.1 ∙ c.reserve.ensures.list.callers) in

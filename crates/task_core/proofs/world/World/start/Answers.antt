@@ -6,7 +6,7 @@ invariant_of-world c =
     let e = c.in_ok-start.ensures in
     record {
       parts = record {
-        stations = e.stations.each;
+        world_inodes = e.world_inodes.each;
         book = e.book;
         sems = e.sems;
         rules = e.rules;

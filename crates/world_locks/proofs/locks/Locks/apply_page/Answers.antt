@@ -5,15 +5,15 @@ use Rattle.std.proofs.lemmas.Result.{err_from_is_err_and}
 use Rattle.task_mind.specs.Steps.{deed_in}
 use Rattle.world_locks.proofs.Opening.{deed_opened, look_of, may_of, pass_of, ready_of}
 use Rattle.world_locks.proofs.Paging.{page_failed, page_met}
-use Rattle.world_locks.proofs.Stations.{its_ready}
-use Rattle.world_locks.specs.Tagged.{NumberedStation}
+use Rattle.world_locks.proofs.WorldInodes.{its_ready}
+use Rattle.world_locks.specs.Tagged.{NumberedWorldInode}
 use Rattle.world_locks.proofs.locks.Locks.apply_page.Goals as goal
 
 pub take_page-requires-clause-pass : goal.take_page-requires-clause-pass
 take_page-requires-clause-pass g c κs within =
     let p = c.passes.inside in
     let taken : c.deref_mut.result.now.number ≡ c.args.i =
-    ap (λ (s : NumberedStation). s.number) c.deref_mut.ensures.value ∙ c.take.ensures.number in
+    ap (λ (s : NumberedWorldInode). s.number) c.deref_mut.ensures.value ∙ c.take.ensures.number in
     pass_of p.inodes.items p.sems p.book p.rules c.args.passes.now c.passes.view_is
     c.args.actor.now.who g.N.Name.consts c.requires.passes c.args.i
     c.deref_mut.result.now.number taken c.requires.below c.index_mut.result.now
@@ -23,7 +23,7 @@ pub take_page-requires-clause-may : goal.take_page-requires-clause-may
 take_page-requires-clause-may g c κs within =
     let p = c.passes.inside in
     let taken : c.deref_mut.result.now.number ≡ c.args.i =
-    ap (λ (s : NumberedStation). s.number) c.deref_mut.ensures.value ∙ c.take.ensures.number in
+    ap (λ (s : NumberedWorldInode). s.number) c.deref_mut.ensures.value ∙ c.take.ensures.number in
     look_of p.inodes.items p.sems p.book p.rules c.args.passes.now c.passes.view_is
     c.args.actor.now.who g.N.Name.consts c.requires.passes c.args.i
     c.deref_mut.result.now.number taken c.requires.below c.index_mut.result.now
@@ -37,7 +37,7 @@ returns-in_err-taken g c =
     let e = err_from_is_err_and c.from_residual.result c.from_residual.ensures.1 in
     let p = c.passes.inside in
     let taken : c.deref_mut.result.now.number ≡ c.args.i =
-    ap (λ (s : NumberedStation). s.number) c.deref_mut.ensures.value ∙ c.take.ensures.number in
+    ap (λ (s : NumberedWorldInode). s.number) c.deref_mut.ensures.value ∙ c.take.ensures.number in
     rw (e.1) (deed_opened p.inodes.items p.sems p.book p.rules c.args.passes.now c.passes.view_is
     c.args.actor.now.who g.N.Name.consts c.requires.passes c.args.i
     c.deref_mut.result.now.number taken c.requires.below c.index_mut.result.now
@@ -51,7 +51,7 @@ pub returns : goal.returns
 returns g c =
     let p = c.passes.inside in
     let taken : c.deref_mut.result.now.number ≡ c.args.i =
-    ap (λ (s : NumberedStation). s.number) c.deref_mut.ensures.value ∙ c.take.ensures.number in
+    ap (λ (s : NumberedWorldInode). s.number) c.deref_mut.ensures.value ∙ c.take.ensures.number in
     let m = c.in_ok-taken.ensures.met in
     let its = pass_of p.inodes.items p.sems p.book p.rules c.args.passes.now c.passes.view_is
     c.args.actor.now.who g.N.Name.consts c.requires.passes c.args.i
@@ -62,7 +62,7 @@ returns g c =
     c.deref_mut.result.now.number taken c.requires.below c.index_mut.result.now
     c.index_mut.ensures.value c.args.hash_state.now
     c.args.actor.now.action c.args.actor.now.slot (deed_in c.args.doing) c.requires.ready in
-    let ready = its_ready g.N.Name.consts c.deref_mut.result.now.number m.station m.alone.is
+    let ready = its_ready g.N.Name.consts c.deref_mut.result.now.number m.world_inode m.alone.is
     c.args.actor.now.who.task c.index_mut.result.now c.args.hash_state.now c.args.actor.now.action
     c.args.actor.now.slot (deed_in c.args.doing) its by m.alone.looked in
     deed_opened p.inodes.items p.sems p.book p.rules c.args.passes.now c.passes.view_is

@@ -2,14 +2,15 @@
 use Rattle.std.proofs.Common.{◌≡◌, ◌∙◌, ap}
 use Rattle.task_mind.specs.Steps.{deed_in}
 use Rattle.world_locks.proofs.Opening.{deed_opened, pass_of, ready_of}
-use Rattle.world_locks.specs.Tagged.{NumberedStation}
+use Rattle.world_locks.specs.Tagged.{NumberedWorldInode}
 use Rattle.world_locks.proofs.locks.Locks.apply_with_list.Goals as goal
 
 pub apply-requires-clause-pass : goal.apply-requires-clause-pass
 apply-requires-clause-pass g c κs within =
     let p = c.passes.inside in
     let taken : c.deref_mut.result.now.number ≡ c.args.i =
-    ap (λ (s : NumberedStation). s.number) c.deref_mut.ensures.value ∙ c.take-station.ensures.number in
+    ap (λ (s : NumberedWorldInode). s.number) c.deref_mut.ensures.value
+    ∙ c.take-world_inode.ensures.number in
     pass_of p.inodes.items p.sems p.book p.rules c.args.passes.now c.passes.view_is
     c.args.actor.now.who g.N.Name.consts c.requires.passes c.args.i
     c.deref_mut.result.now.number taken c.requires.below c.index_mut.result.now
@@ -19,7 +20,8 @@ pub apply-requires-clause-ready : goal.apply-requires-clause-ready
 apply-requires-clause-ready g c κs within =
     let p = c.passes.inside in
     let taken : c.deref_mut.result.now.number ≡ c.args.i =
-    ap (λ (s : NumberedStation). s.number) c.deref_mut.ensures.value ∙ c.take-station.ensures.number in
+    ap (λ (s : NumberedWorldInode). s.number) c.deref_mut.ensures.value
+    ∙ c.take-world_inode.ensures.number in
     ready_of p.inodes.items p.sems p.book p.rules c.args.passes.now c.passes.view_is
     c.args.actor.now.who g.N.Name.consts c.requires.passes c.args.i
     c.deref_mut.result.now.number taken c.requires.below c.index_mut.result.now
@@ -31,7 +33,8 @@ pub returns : goal.returns
 returns g c =
     let p = c.passes.inside in
     let taken : c.deref_mut.result.now.number ≡ c.args.i =
-    ap (λ (s : NumberedStation). s.number) c.deref_mut.ensures.value ∙ c.take-station.ensures.number in
+    ap (λ (s : NumberedWorldInode). s.number) c.deref_mut.ensures.value
+    ∙ c.take-world_inode.ensures.number in
     deed_opened p.inodes.items p.sems p.book p.rules c.args.passes.now c.passes.view_is
     c.args.actor.now.who g.N.Name.consts c.requires.passes c.args.i
     c.deref_mut.result.now.number taken c.requires.below c.index_mut.result.now

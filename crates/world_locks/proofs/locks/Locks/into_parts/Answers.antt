@@ -7,7 +7,7 @@ returns-clause-consts g c =
     let own = c.args.self in
     consts_kept g.N.Name.consts
     (record {
-      stations = c.in_ok-stations.stations;
+      world_inodes = c.in_ok-world_inodes.world_inodes;
       book = c.open-book.result;
       sems = c.open-sems.result;
       rules = c.open-rules.result.0;
@@ -18,7 +18,7 @@ returns-clause-consts g c =
       alloc = own.alloc;
     })
     (record {
-      stations = c.in_ok-stations.ensures;
+      world_inodes = c.in_ok-world_inodes.ensures;
       book = c.open-book.ensures.kept;
       sems = c.open-sems.ensures.kept;
       rules = c.open-rules.ensures.kept.rules;

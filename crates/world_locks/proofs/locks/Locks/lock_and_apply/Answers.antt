@@ -10,8 +10,8 @@ use Rattle.world_locks.proofs.locks.Locks.lock_and_apply.Goals as goal
 pub returns-then-i-len : goal.returns-then-i-len
 returns-then-i-len g c =
     let own = c.args.self.now in
-    let none : length g.N.Name.consts.sites ≤ c.args.i =
-    omega (arith, c.len.ensures, own.stations.ok.0, own.count) in
+    let none : length g.N.Name.consts.each_inode ≤ c.args.i =
+    omega (arith, c.len.ensures, own.world_inodes.ok.0, own.count) in
     none_met g.N.Name.consts c.args.i c.args.passes.now c.args.actor.now.who
     (deed_in c.args.doing) c.args.hash_state.now none
 

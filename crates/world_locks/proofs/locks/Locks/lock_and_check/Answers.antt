@@ -4,14 +4,14 @@ use Rattle.inode_events.specs.Checks.{no_action}
 use Rattle.inode_events.specs.declared.deed.Deed.TheVariants as deed
 use Rattle.world_locks.proofs.Meeting.{unasked_met}
 use Rattle.world_locks.proofs.Opening.{ask_opened, pass_of, ready_of}
-use Rattle.world_locks.specs.Tagged.{NumberedStation}
+use Rattle.world_locks.specs.Tagged.{NumberedWorldInode}
 use Rattle.world_locks.proofs.locks.Locks.lock_and_check.Goals as goal
 
 pub returns-then-i-len : goal.returns-then-i-len
 returns-then-i-len g c =
     let own = c.args.self.now in
-    let none : length g.N.Name.consts.sites ≤ c.args.i =
-    omega (arith, c.len.ensures, own.stations.ok.0, own.count) in
+    let none : length g.N.Name.consts.each_inode ≤ c.args.i =
+    omega (arith, c.len.ensures, own.world_inodes.ok.0, own.count) in
     unasked_met g.N.Name.consts c.args.i c.args.passes.now c.args.actor.now.who
     c.args.actor.now.cred.now c.args.asked none
 
@@ -20,9 +20,10 @@ check-requires-clause-pass g c κs within =
     let own = c.args.self.now in
     let p = c.passes.inside in
     let taken : c.deref_mut.result.now.number ≡ c.args.i =
-    ap (λ (s : NumberedStation). s.number) c.deref_mut.ensures.value ∙ c.take-inode.ensures.number in
-    let below : c.args.i < length g.N.Name.consts.sites =
-    omega (arith, c.len.ensures, own.stations.ok.0, own.count) in
+    ap (λ (s : NumberedWorldInode). s.number) c.deref_mut.ensures.value
+    ∙ c.take-inode.ensures.number in
+    let below : c.args.i < length g.N.Name.consts.each_inode =
+    omega (arith, c.len.ensures, own.world_inodes.ok.0, own.count) in
     pass_of p.inodes.items p.sems p.book p.rules c.args.passes.now c.passes.view_is
     c.args.actor.now.who g.N.Name.consts c.requires.passes c.args.i
     c.deref_mut.result.now.number taken below c.index_mut.result.now c.index_mut.ensures.value
@@ -32,9 +33,10 @@ check-requires-clause-ready g c κs within =
     let own = c.args.self.now in
     let p = c.passes.inside in
     let taken : c.deref_mut.result.now.number ≡ c.args.i =
-    ap (λ (s : NumberedStation). s.number) c.deref_mut.ensures.value ∙ c.take-inode.ensures.number in
-    let below : c.args.i < length g.N.Name.consts.sites =
-    omega (arith, c.len.ensures, own.stations.ok.0, own.count) in
+    ap (λ (s : NumberedWorldInode). s.number) c.deref_mut.ensures.value
+    ∙ c.take-inode.ensures.number in
+    let below : c.args.i < length g.N.Name.consts.each_inode =
+    omega (arith, c.len.ensures, own.world_inodes.ok.0, own.count) in
     λ h. ready_of p.inodes.items p.sems p.book p.rules c.args.passes.now c.passes.view_is
     c.args.actor.now.who g.N.Name.consts c.requires.passes c.args.i
     c.deref_mut.result.now.number taken below c.index_mut.result.now c.index_mut.ensures.value
@@ -46,9 +48,10 @@ returns g c =
     let own = c.args.self.now in
     let p = c.passes.inside in
     let taken : c.deref_mut.result.now.number ≡ c.args.i =
-    ap (λ (s : NumberedStation). s.number) c.deref_mut.ensures.value ∙ c.take-inode.ensures.number in
-    let below : c.args.i < length g.N.Name.consts.sites =
-    omega (arith, c.len.ensures, own.stations.ok.0, own.count) in
+    ap (λ (s : NumberedWorldInode). s.number) c.deref_mut.ensures.value
+    ∙ c.take-inode.ensures.number in
+    let below : c.args.i < length g.N.Name.consts.each_inode =
+    omega (arith, c.len.ensures, own.world_inodes.ok.0, own.count) in
     ask_opened p.inodes.items p.sems p.book p.rules c.args.passes.now c.passes.view_is
     c.args.actor.now.who g.N.Name.consts c.requires.passes c.args.i
     c.deref_mut.result.now.number taken below c.index_mut.result.now c.index_mut.ensures.value

@@ -1,0 +1,10 @@
+use Rattle.std.proofs.Common.{arith}
+use Rattle.grow_list.proofs.Moves.{hears_as}
+use Rattle.grow_list.proofs.meeting.list_learns.Goals as goal
+
+pub load-requires : goal.load-requires
+load-requires g c = (
+  c.requires.seat.0,
+  omega (arith, c.requires.words),
+  hears_as _ _ _ _ c.requires.seat.1 c.requires.view,
+)

@@ -1,4 +1,0 @@
-use Rattle.world_close.proofs.stations.close_last.Given as goal
-
-abbrev pub ghost-take_last : goal.ghost-take_last
-ghost-take_last g a = g.names
