@@ -97,7 +97,7 @@ pub fn is_same(a: outcomes::Made, b: outcomes::Made) -> bool {
 pub fn outcome_of(
     alloc: Global,
     ended: &run_model::Ended,
-) -> Result<templates::xattrs::Bytes, OutOfMemory> {
+) -> Result<xattr_store::Bytes, OutOfMemory> {
     outcomes::outcome_of(alloc, ended)
 }
 
@@ -113,10 +113,7 @@ pub fn are_alike(alloc: Global, a: &sights::Sight, b: &sights::Sight) -> Result<
 
 // ---- order_runs
 
-pub fn read(
-    alloc: Global,
-    text: templates::xattrs::Bytes,
-) -> Result<runs::Play, script_text::ScriptErr>
+pub fn read(alloc: Global, text: xattr_store::Bytes) -> Result<runs::Play, script_text::ScriptErr>
     requires { length text < 2 ^ 32 - 1 }
 {
     runs::Play::read(alloc, text)
@@ -152,7 +149,7 @@ pub fn rows_of<G: ima_io::Gate>(
 
 pub fn rows(row: &runs::Row, stopped: runs::Stopped) {
     let _counted: &counts::Counted = &row.counted;
-    let _outcome: &templates::xattrs::Bytes = &row.outcome;
+    let _outcome: &xattr_store::Bytes = &row.outcome;
     let _most: u32 = runs::MOST_TURNS;
     match stopped {
         runs::Stopped::TooMany | runs::Stopped::OutOfMemory => {}
