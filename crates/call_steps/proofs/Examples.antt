@@ -30,26 +30,26 @@ use Rattle.call_steps.specs.declared.due.Next.{Next}
 use Rattle.call_steps.specs.declared.due.Next.TheVariants.{On, Over}
 
 -- the outcome of a step, and for a check its action
-abbrev Heard : Type 0
-Heard = Told × Action
+abbrev StepTold : Type 0
+StepTold = Told × Action
 
-abbrev plain : Told → Heard
+abbrev plain : Told → StepTold
 plain t = (t, no_action)
 
-abbrev measured : Told → Heard
+abbrev measured : Told → StepTold
 measured t = (t, record no_action { measure = true })
 
-abbrev appraised : Told → Heard
+abbrev appraised : Told → StepTold
 appraised t = (t, record no_action { appraise = true })
 
 -- the steps of a call that is given these outcomes, one after the other, and its reply
-abbrev steps_from : Mode → Call → Next → List Heard → List Ask × Option Reply
+abbrev steps_from : Mode → Call → Next → List StepTold → List Ask × Option Reply
 steps_from mode c (Over r) heard = ([], Some r)
 steps_from mode c (On s) [] = (s.ask ∷ [], None)
 steps_from mode c (On s) (h ∷ hs) =
     let more = steps_from mode c (next mode c s h.0 h.1) hs in (s.ask ∷ more.0, more.1)
 
-abbrev steps : Mode → List Handle → Call → List Heard → List Ask × Option Reply
+abbrev steps : Mode → List Handle → Call → List StepTold → List Ask × Option Reply
 steps mode handles c heard = steps_from mode c (On (first c (hand_of false handles c))) heard
 
 -- a file that was opened for reading, under this name

@@ -1,6 +1,6 @@
 pub mod Handles
 pub mod Steps
-pub mod Mind
+pub mod CallState
 pub mod Forms
 pub use Rattle.inode_events.specs.hashes
 pub use Rattle.inode_events.specs.templates

@@ -9,7 +9,7 @@ use Rattle.script_text.specs.steps.declared.call.Call.TheVariants as call
 use Rattle.load_gen.specs.Accepted.{IsLoad, never_waits, waits}
 use Rattle.script_run.specs.model.Ended.{all_done, all_wait, is_done, is_stuck, left, waits_in_vain}
 use Rattle.script_run.specs.model.EndedValue.{EndedValue}
-use Rattle.script_run.specs.model.History.{Thought}
+use Rattle.script_run.specs.model.History.{Position}
 use Rattle.script_run.specs.model.Scene.{Program}
 use Rattle.script_run.specs.Run.{HasRun}
 use Rattle.script_run.specs.scenes.Scene.{program_of}
@@ -37,10 +37,10 @@ abbrev programs_of : List TaskBlock → List Program
 programs_of tasks = map program_of tasks
 
 -- a task that never waits is done or can go on
-done_alone : (left_of : ℕ → ℕ) (tasks : List TaskBlock) (thoughts : List Thought)
+done_alone : (left_of : ℕ → ℕ) (tasks : List TaskBlock) (positions : List Position)
     → list_all never_waits tasks ≡ true
-    → all_wait left_of (programs_of tasks) thoughts ≡ all_done (programs_of tasks) thoughts
-done_alone left_of [] thoughts h = refl
+    → all_wait left_of (programs_of tasks) positions ≡ all_done (programs_of tasks) positions
+done_alone left_of [] positions h = refl
 done_alone left_of (t ∷ ts) [] h = refl
 done_alone left_of (t ∷ ts) (x ∷ xs) h =
     rw (
@@ -54,16 +54,16 @@ not_both : (b : Bool) → (not b && b) ≡ false
 not_both true = refl
 not_both false = refl
 
-never_stuck : (tasks : List TaskBlock) (thoughts : List Thought)
-    → list_all never_waits tasks ≡ true → is_stuck (programs_of tasks) thoughts ≡ false
-never_stuck tasks thoughts h =
-    let left_of : ℕ → ℕ = λ sem. left sem (programs_of tasks) thoughts in
-    ap (λ (b : Bool). not (all_done (programs_of tasks) thoughts) && b)
-    (done_alone left_of tasks thoughts h)
-    ∙ not_both (all_done (programs_of tasks) thoughts)
+never_stuck : (tasks : List TaskBlock) (positions : List Position)
+    → list_all never_waits tasks ≡ true → is_stuck (programs_of tasks) positions ≡ false
+never_stuck tasks positions h =
+    let left_of : ℕ → ℕ = λ sem. left sem (programs_of tasks) positions in
+    ap (λ (b : Bool). not (all_done (programs_of tasks) positions) && b)
+    (done_alone left_of tasks positions h)
+    ∙ not_both (all_done (programs_of tasks) positions)
 
 -- the run of a script whose tasks never wait isn't stuck
 pub goes_through : (s : ScriptValue) (e : EndedValue) → IsLoad s → HasRun s e → e.stuck ≡ false
 goes_through s e load has =
     ap (λ (x : EndedValue). x.stuck) has.promised.leaves
-    ∙ never_stuck s.tasks has.run.thoughts load.free
+    ∙ never_stuck s.tasks has.run.positions load.free

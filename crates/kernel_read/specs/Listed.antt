@@ -12,7 +12,7 @@ use Rattle.script_text.specs.events.declared.told.Event.{Event}
 use Rattle.script_text.specs.events.declared.told.Grant.{Grant}
 use Rattle.script_text.specs.events.meta.declared.step.Who.{Who}
 use Rattle.script_text.specs.events.pages.Content.{bytes_at, most_bytes}
-use Rattle.script_text.specs.steps.Mind.{is_done}
+use Rattle.script_text.specs.steps.CallState.{is_done}
 use Rattle.script_text.specs.steps.declared.call.Call.{Call}
 use Rattle.script_text.specs.steps.declared.ending.Ending.{Ending}
 use Rattle.script_text.specs.steps.declared.reply.Reply.{Reply}
@@ -22,7 +22,7 @@ use Rattle.kernel_read_laws.specs.Reads.{is_of_call, read_by, reply_with}
 use Rattle.kernel_read_laws.specs.laws_of_journals.Executed.{grant_event}
 use Rattle.kernel_read_laws.specs.laws_of_runs.Places.{HasForms}
 use Rattle.kernel_read_laws.specs.model.EndedValue.{ended_of}
-use Rattle.kernel_read_laws.specs.model.History.{Thought}
+use Rattle.kernel_read_laws.specs.model.History.{Position}
 use Rattle.kernel_read_laws.specs.model.Scene.{Program, Scene, ScriptFile, inode_of}
 use Rattle.kernel_read_laws.specs.model.Served.{Run}
 use Rattle.kernel_read_laws.specs.model.Shown.{IsShown}
@@ -45,10 +45,10 @@ pub record ShowsRead (inode : Inode) (list : List Entry) (n k : ℕ) (c : Call) 
 abbrev pub MeasuredReadsAreListed : Type 0
 MeasuredReadsAreListed =
     (scene : Scene) (ending : Ending) (run : Run) → IsShown scene ending run → HasForms scene
-    → (n k i : ℕ) (p : Program) (c : Call) (t : Thought) (r : Reply) (script_file : ScriptFile)
+    → (n k i : ℕ) (p : Program) (c : Call) (t : Position) (r : Reply) (script_file : ScriptFile)
     (journal : List Event)
     → slice_get scene.programs n ≡ Some p → slice_get p.calls k ≡ Some c → read_by c ≡ Some i
-    → slice_get run.thoughts n ≡ Some t → slice_get t.replies k ≡ Some r → is_done r ≡ true
+    → slice_get run.positions n ≡ Some t → slice_get t.replies k ≡ Some r → is_done r ≡ true
     → slice_get scene.script_files i ≡ Some script_file → slice_get run.journals i ≡ Some journal
     → (l q : List Event) (who : Who) (d : Deed) (grant : Grant) (g : ℕ)
     → newest_first journal ≡ l ++ grant_event who d grant ∷ q

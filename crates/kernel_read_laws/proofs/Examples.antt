@@ -14,7 +14,7 @@ use Rattle.inode_events.specs.declared.deed.How.TheVariants as how
 use Rattle.inode_events.specs.declared.told.Event.{Event}
 use Rattle.inode_events.specs.declared.told.Told.TheVariants as told
 use Rattle.inode_events.specs.policy.declared.rule.Func.TheVariants.{ModuleCheck}
-use Rattle.shown_laws.specs.model.History.{Thought}
+use Rattle.shown_laws.specs.model.History.{Position}
 use Rattle.shown_laws.specs.model.Scene.{Program, Scene}
 use Rattle.shown_laws.specs.model.Turns.{Moment, start_of, turn, turns_of}
 use Rattle.shown_laws.proofs.about_model.Rows.{boot, did, entry, granted, image, measure, moment, root, rule, scene_with, who}
@@ -54,9 +54,9 @@ hashed =
     ∷ []
 
 -- the task before the collection ends
-abbrev finishing : Thought
+abbrev finishing : Position
 finishing = record {
-  mind = record {
+  call_state = record {
     at = 0;
     progress = Some (record {
       due = record { ask = ask.Finish; reply = reply.Done };
@@ -77,9 +77,9 @@ unfolding newest_first
 hashes = refl
 
 -- the task before the kernel reads the content
-abbrev reading : Thought
+abbrev reading : Position
 reading = record {
-  mind = record {
+  call_state = record {
     at = 0;
     progress = Some (record {
       due = record { ask = ask.Read 0 262144; reply = reply.Done };
@@ -128,9 +128,9 @@ loaded =
     ∷ []
 
 -- the task when the call is answered
-abbrev answered : Thought
+abbrev answered : Position
 answered = record {
-  mind = record { at = 1; progress = None; handles = [] };
+  call_state = record { at = 1; progress = None; handles = [] };
   replies = reply.Bytes 3 (digest_of Sha256 image.content) ∷ [];
 }
 
@@ -170,9 +170,9 @@ abbrev both : Scene
 both = modules (loader ∷ writer ∷ [])
 
 -- the first task when its file is counted
-abbrev checking : Thought
+abbrev checking : Position
 checking = record {
-  mind = record {
+  call_state = record {
     at = 0;
     progress = Some (record {
       due = record { ask = ask.Check ModuleCheck 4; reply = reply.Done };
@@ -187,10 +187,10 @@ checking = record {
 }
 
 -- the second task when its open is refused
-abbrev refused : Thought
+abbrev refused : Position
 refused =
     record {
-      mind = record { at = 1; progress = None; handles = [] };
+      call_state = record { at = 1; progress = None; handles = [] };
       replies = reply.TextBusy ∷ [];
     }
 

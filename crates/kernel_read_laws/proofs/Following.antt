@@ -4,8 +4,8 @@ use Rattle.std.specs.Prelude.{◌⊎◌, ◌==◌, slice_get, unwrap_or}
 use Rattle.std.proofs.lemmas.Bool.{eq-eqb, eqb-true}
 use Rattle.std.proofs.lemmas.List.{append-nil}
 use Rattle.std.proofs.lemmas.Option.{none-some, same_Some, slice_get_past}
-use Rattle.call_steps.specs.Mind.{Progress, Step, begun, file_after, is_done, moved, progress_of, step_by}
-use Rattle.call_steps.specs.Mind.{Nothing, Does, Checks, Signals, Appends}
+use Rattle.call_steps.specs.CallState.{Progress, Step, begun, file_after, is_done, moved, progress_of, step_by}
+use Rattle.call_steps.specs.CallState.{Nothing, Does, Checks, Signals, Appends}
 use Rattle.call_steps.specs.Steps.{course_of, next}
 use Rattle.call_steps.specs.declared.call.Call.{Call}
 use Rattle.call_steps.specs.declared.call.Call.TheVariants as call
@@ -19,7 +19,7 @@ use Rattle.inode_events.specs.declared.deed.How.TheVariants as how
 use Rattle.inode_events.specs.declared.told.Event.{Event}
 use Rattle.inode_events.specs.meta.declared.appraisal.Mode.{Mode}
 use Rattle.inode_events.specs.meta.declared.step.Who.{Who}
-use Rattle.shown_laws.specs.model.History.{Answer, Thought, call_at, event, event_in, hear_in, own, step_in, thought, thought_with, who_in}
+use Rattle.shown_laws.specs.model.History.{Answer, Position, call_at, event, event_in, own, position, position_with, resume_in, step_in, who_in}
 use Rattle.shown_laws.specs.model.Scene.{Program}
 use Rattle.shown_laws.proofs.about_growing.Own.{slice_get-push}
 use Rattle.shown_laws.proofs.Denied.{IsEven, even, get_left, one_there}
@@ -30,10 +30,10 @@ use Rattle.kernel_read_laws.proofs.Tracking.{HasLoaded, IsLoad, NextIs, NoneOf, 
 
 -- before the call begins, no event is of it; while it is in progress, and once it was answered with
 -- success, its events are those of a read by the kernel
-record Tracked (n k i : ℕ) (t : Thought) (xs : List (ℕ × Event)) : Type 0 where
-  pub ahead : t.mind.at < k → NoneOf k xs
-  pub begins : t.mind.at ≡ k → t.mind.progress ≡ None → NoneOf k xs
-  pub goes : (g : Progress) → t.mind.at ≡ k → t.mind.progress ≡ Some g
+record Tracked (n k i : ℕ) (t : Position) (xs : List (ℕ × Event)) : Type 0 where
+  pub ahead : t.call_state.at < k → NoneOf k xs
+  pub begins : t.call_state.at ≡ k → t.call_state.progress ≡ None → NoneOf k xs
+  pub goes : (g : Progress) → t.call_state.at ≡ k → t.call_state.progress ≡ Some g
       → Underway n k i g.inode g.file g.due.ask g.due.reply xs
   pub done : (r : Reply) → slice_get t.replies k ≡ Some r → is_done r ≡ true → HasLoaded n k r xs
 
@@ -106,49 +106,49 @@ moves_first mode admin n k i (call.Firmware j) hs xs a e none =
 moves_first mode admin n k i c hs xs a e none = absurd (none-some i e)
 
 -- either way
-moves : (mode : Mode) (p : Program) (n i : ℕ) (c : Call) (t : Thought) (xs : List (ℕ × Event))
-    (a : Answer) → read_by c ≡ Some i → Tracked n t.mind.at i t xs
-    → Moves mode p.cred.admin n t.mind.at i c xs a (progress_of p.cred.admin c t.mind)
-moves mode p n i c t xs a e tr = at t.mind.progress refl where
-  at : (o : Option Progress) → t.mind.progress ≡ o
-      → Moves mode p.cred.admin n t.mind.at i c xs a
-      (unwrap_or o (begun p.cred.admin t.mind.handles c))
-  at None q = moves_first mode p.cred.admin n t.mind.at i c t.mind.handles xs a e
+moves : (mode : Mode) (p : Program) (n i : ℕ) (c : Call) (t : Position) (xs : List (ℕ × Event))
+    (a : Answer) → read_by c ≡ Some i → Tracked n t.call_state.at i t xs
+    → Moves mode p.cred.admin n t.call_state.at i c xs a (progress_of p.cred.admin c t.call_state)
+moves mode p n i c t xs a e tr = at t.call_state.progress refl where
+  at : (o : Option Progress) → t.call_state.progress ≡ o
+      → Moves mode p.cred.admin n t.call_state.at i c xs a
+      (unwrap_or o (begun p.cred.admin t.call_state.handles c))
+  at None q = moves_first mode p.cred.admin n t.call_state.at i c t.call_state.handles xs a e
       (tr.begins refl q)
-  at (Some g) q = moves_on mode p.cred.admin n t.mind.at i c xs a g (loads c i e)
+  at (Some g) q = moves_on mode p.cred.admin n t.call_state.at i c xs a g (loads c i e)
       (tr.goes g refl q)
 
 -- what the step leaves is tracked
-moved_here : (n i : ℕ) (c : Call) (t : Thought) (g : Progress) (place : ℕ) (xs : List (ℕ × Event))
+moved_here : (n i : ℕ) (c : Call) (t : Position) (g : Progress) (place : ℕ) (xs : List (ℕ × Event))
     (x : Next) → IsEven t
-    → NextIs n t.mind.at i g.inode (file_after g.due.ask place g.file) xs x
-    → Tracked n t.mind.at i (thought_with t (moved c t.mind g place x)) xs
+    → NextIs n t.call_state.at i g.inode (file_after g.due.ask place g.file) xs x
+    → Tracked n t.call_state.at i (position_with t (moved c t.call_state g place x)) xs
 moved_here n i c t g place xs (On s) even u = record {
   ahead = λ l. absurd (omega arith);
   begins = λ e q. absurd (cc);
   goes = λ g2 e q. subst
-      (λ (y : Progress). Underway n t.mind.at i y.inode y.file y.due.ask y.due.reply xs)
+      (λ (y : Progress). Underway n t.call_state.at i y.inode y.file y.due.ask y.due.reply xs)
       (same_Some (record g {
         due = s;
         step = g.step + 1;
         file = file_after g.due.ask place g.file;
       }) g2 q) u;
   done = λ r h d. absurd (none-some r
-      (sym (slice_get_past t.replies t.mind.at (omega (arith, even))) ∙ h));
+      (sym (slice_get_past t.replies t.call_state.at (omega (arith, even))) ∙ h));
 }
 moved_here n i c t g place xs (Over r) even u = record {
   ahead = λ l. absurd (omega arith);
   begins = λ e q. absurd (omega arith);
   goes = λ g2 e q. absurd (omega arith);
-  done = λ r2 h d. at r2 d (get_pushed t.replies r t.mind.at r2 h);
+  done = λ r2 h d. at r2 d (get_pushed t.replies r t.call_state.at r2 h);
 } where
   at : (r2 : Reply) → is_done r2 ≡ true
-      → (slice_get t.replies t.mind.at ≡ Some r2) ⊎ ((t.mind.at ≡ length t.replies) × (r ≡ r2))
-      → HasLoaded n t.mind.at r2 xs
+      → (slice_get t.replies t.call_state.at ≡ Some r2)
+      ⊎ ((t.call_state.at ≡ length t.replies) × (r ≡ r2)) → HasLoaded n t.call_state.at r2 xs
   at r2 d (inl h) = absurd (none-some r2
-      (sym (slice_get_past t.replies t.mind.at (omega (arith, even))) ∙ h))
+      (sym (slice_get_past t.replies t.call_state.at (omega (arith, even))) ∙ h))
   at r2 d (inr h) =
-      subst (λ (y : Reply). is_done y ≡ true → HasLoaded n t.mind.at y xs) h.1 u d
+      subst (λ (y : Reply). is_done y ≡ true → HasLoaded n t.call_state.at y xs) h.1 u d
 
 -- ---- a step of another call
 
@@ -176,9 +176,10 @@ none_more : (k : ℕ) (xs ys : List (ℕ × Event)) → NoneOf k ys → NoneOf k
 none_more k xs ys b a = each_both k (λ x. ⊥) xs ys a b
 
 -- a step of another call leaves call k tracked
-moved_apart : (n k i : ℕ) (c : Call) (t : Thought) (g : Progress) (place : ℕ)
-    (xs ys : List (ℕ × Event)) (x : Next) → IsEven t → (t.mind.at ≡ k → ⊥) → NoneOf k ys
-    → Tracked n k i t xs → Tracked n k i (thought_with t (moved c t.mind g place x)) (xs ++ ys)
+moved_apart : (n k i : ℕ) (c : Call) (t : Position) (g : Progress) (place : ℕ)
+    (xs ys : List (ℕ × Event)) (x : Next) → IsEven t → (t.call_state.at ≡ k → ⊥) → NoneOf k ys
+    → Tracked n k i t xs
+    → Tracked n k i (position_with t (moved c t.call_state g place x)) (xs ++ ys)
 moved_apart n k i c t g place xs ys (On s) even other none tr = record {
   ahead = λ l. none_more k xs ys none (tr.ahead l);
   begins = λ e q. absurd (other e);
@@ -204,47 +205,51 @@ told_before : (xs ys : List (ℕ × Event)) → AreTold (xs ++ ys) → AreTold x
 told_before xs ys fit j x e = fit j x (get_left xs ys j x e)
 
 -- a step of a task keeps call k tracked
-tracked_step : (mode : Mode) (n : ℕ) (p : Program) (i k : ℕ) (c : Call) (t : Thought) (a : Answer)
+tracked_step : (mode : Mode) (n : ℕ) (p : Program) (i k : ℕ) (c : Call) (t : Position) (a : Answer)
     (xs : List (ℕ × Event)) (o : Option Call) → slice_get p.calls k ≡ Some c → read_by c ≡ Some i
-    → call_at p t.mind ≡ o → IsEven t
-    → AreTold (xs ++ event_in i (who_in n p o t.mind) (step_in p o t.mind) a)
+    → call_at p t.call_state ≡ o → IsEven t
+    → AreTold (xs ++ event_in i (who_in n p o t.call_state) (step_in p o t.call_state) a)
     → Tracked n k i t xs
-    → Tracked n k i (hear_in mode p o t a)
-    (xs ++ event_in i (who_in n p o t.mind) (step_in p o t.mind) a)
+    → Tracked n k i (resume_in mode p o t a)
+    (xs ++ event_in i (who_in n p o t.call_state) (step_in p o t.call_state) a)
 tracked_step mode n p i k c t a xs None is reads here even fit tr =
     subst (λ (l : List (ℕ × Event)). Tracked n k i t l) (sym (append-nil xs)) tr
 tracked_step mode n p i k c t a xs (Some c2) is reads here even fit tr =
-    at (t.mind.at == k) refl where
+    at (t.call_state.at == k) refl where
       g : Progress
-      g = progress_of p.cred.admin c2 t.mind
+      g = progress_of p.cred.admin c2 t.call_state
 
-      mine : (m : ℕ) → t.mind.at ≡ m → slice_get p.calls m ≡ Some c → Tracked n m i t xs
-          → Tracked n m i (hear_in mode p (Some c2) t a)
-          (xs ++ event_in i (who_in n p (Some c2) t.mind) (step_in p (Some c2) t.mind) a)
+      mine : (m : ℕ) → t.call_state.at ≡ m → slice_get p.calls m ≡ Some c → Tracked n m i t xs
+          → Tracked n m i (resume_in mode p (Some c2) t a)
+          (xs ++ event_in i (who_in n p (Some c2) t.call_state)
+          (step_in p (Some c2) t.call_state) a)
       mine m e is2 tr2 =
-          subst (λ (y : ℕ). Tracked n y i t xs → Tracked n y i (hear_in mode p (Some c2) t a)
-          (xs ++ event_in i (who_in n p (Some c2) t.mind) (step_in p (Some c2) t.mind) a)) e
-          (λ tr3. moved_here n i c2 t (progress_of p.cred.admin c2 t.mind) a.place
-          (xs ++ event_in i (who_in n p (Some c2) t.mind) (step_in p (Some c2) t.mind) a)
-          (next mode c2 (progress_of p.cred.admin c2 t.mind).due a.told a.action) even
+          subst (λ (y : ℕ). Tracked n y i t xs → Tracked n y i (resume_in mode p (Some c2) t a)
+          (xs ++ event_in i (who_in n p (Some c2) t.call_state) (step_in p (Some c2) t.call_state)
+          a)) e (λ tr3. moved_here n i c2 t (progress_of p.cred.admin c2 t.call_state) a.place
+          (xs ++ event_in i (who_in n p (Some c2) t.call_state)
+          (step_in p (Some c2) t.call_state) a)
+          (next mode c2 (progress_of p.cred.admin c2 t.call_state).due a.told a.action) even
           (moves mode p n i c2 t xs a
           (subst (λ (y : Call). read_by y ≡ Some i) (same_Some c c2
           (sym is2 ∙ ap (slice_get p.calls) (sym e) ∙ here)) reads) tr3 fit)) tr2
 
-      at : (b : Bool) → (t.mind.at == k) ≡ b → Tracked n k i (hear_in mode p (Some c2) t a)
-          (xs ++ event_in i (who_in n p (Some c2) t.mind) (step_in p (Some c2) t.mind) a)
-      at true e = mine k (eqb-true t.mind.at k e) is tr
+      at : (b : Bool) → (t.call_state.at == k) ≡ b → Tracked n k i (resume_in mode p (Some c2) t a)
+          (xs ++ event_in i (who_in n p (Some c2) t.call_state)
+          (step_in p (Some c2) t.call_state) a)
+      at true e = mine k (eqb-true t.call_state.at k e) is tr
       at false e =
-          let other : t.mind.at ≡ k → ⊥ = λ s. cc (eq-eqb t.mind.at k s) in
-          moved_apart n k i c2 t (progress_of p.cred.admin c2 t.mind) a.place xs
-          (event_in i (who_in n p (Some c2) t.mind) (step_in p (Some c2) t.mind) a)
-          (next mode c2 (progress_of p.cred.admin c2 t.mind).due a.told a.action) even other
-          (event_other i k (who_in n p (Some c2) t.mind) (step_in p (Some c2) t.mind) a other) tr
+          let other : t.call_state.at ≡ k → ⊥ = λ s. cc (eq-eqb t.call_state.at k s) in
+          moved_apart n k i c2 t (progress_of p.cred.admin c2 t.call_state) a.place xs
+          (event_in i (who_in n p (Some c2) t.call_state) (step_in p (Some c2) t.call_state) a)
+          (next mode c2 (progress_of p.cred.admin c2 t.call_state).due a.told a.action) even other
+          (event_other i k (who_in n p (Some c2) t.call_state) (step_in p (Some c2) t.call_state) a
+          other) tr
 
 -- call k is tracked along the whole history
 tracked : (mode : Mode) (n : ℕ) (p : Program) (i k : ℕ) (c : Call) → slice_get p.calls k ≡ Some c
     → read_by c ≡ Some i → (h : List Answer) → AreTold (own mode n p i h)
-    → Tracked n k i (thought mode p h) (own mode n p i h)
+    → Tracked n k i (position mode p h) (own mode n p i h)
 tracked mode n p i k c is reads [] fit = record {
   ahead = λ l j x e s. absurd (cc);
   begins = λ e q j x e2 s. absurd (cc);
@@ -252,16 +257,17 @@ tracked mode n p i k c is reads [] fit = record {
   done = λ r e d. absurd (cc);
 }
 tracked mode n p i k c is reads (a ∷ h) fit =
-    tracked_step mode n p i k c (thought mode p h) a (own mode n p i h)
-    (call_at p (thought mode p h).mind) is reads refl (even mode p h) fit
+    tracked_step mode n p i k c (position mode p h) a (own mode n p i h)
+    (call_at p (position mode p h).call_state) is reads refl (even mode p h) fit
     (tracked mode n p i k c is reads h (told_before (own mode n p i h)
-    (event_in i (who_in n p (call_at p (thought mode p h).mind) (thought mode p h).mind)
-    (step_in p (call_at p (thought mode p h).mind) (thought mode p h).mind) a) fit))
+    (event_in i (who_in n p (call_at p (position mode p h).call_state)
+    (position mode p h).call_state)
+    (step_in p (call_at p (position mode p h).call_state) (position mode p h).call_state) a) fit))
 
 -- a call of the kernel that was answered with success has counted, read and closed its file
 pub loaded : (mode : Mode) (n : ℕ) (p : Program) (i k : ℕ) (c : Call) (h : List Answer) (r : Reply)
     → slice_get p.calls k ≡ Some c → read_by c ≡ Some i → AreTold (own mode n p i h)
-    → slice_get (thought mode p h).replies k ≡ Some r → is_done r ≡ true
+    → slice_get (position mode p h).replies k ≡ Some r → is_done r ≡ true
     → HasLoaded n k r (own mode n p i h)
 loaded mode n p i k c h r is reads fit replied done =
     (tracked mode n p i k c is reads h fit).done r replied done

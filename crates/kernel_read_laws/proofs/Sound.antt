@@ -43,7 +43,7 @@ use Rattle.shown_laws.specs.Places.{Stood}
 use Rattle.shown_laws.specs.laws_of_journals.Executed.{IsUndisturbed, grant_event, is_check_of}
 use Rattle.shown_laws.specs.laws_of_journals.Own.{names_file}
 use Rattle.shown_laws.specs.laws_of_journals.Standing.{IsHeldAsCounted, event_at}
-use Rattle.shown_laws.specs.model.History.{Thought, own}
+use Rattle.shown_laws.specs.model.History.{Position, own}
 use Rattle.shown_laws.specs.model.Scene.{inode_of, mode_of}
 use Rattle.shown_laws.specs.model.Served.{IsServed, events_of}
 use Rattle.shown_laws.proofs.laws_of_journals.Bridge.{event_there}
@@ -568,7 +568,7 @@ reads_soundly scene ending run shown forms n k i p c t r script_file journal at_
     subst (λ (xs : List (ℕ × Event)). HasLoaded n k r xs) (sym same)
     (loaded (mode_of scene) n p i k c served.history r at_c reads
     (subst AreTold same (own_told (inode_of scene script_file) n journal legal.1))
-    (ap (λ (u : Thought). slice_get u.replies k) served.stands ∙ replied) done) in
+    (ap (λ (u : Position). slice_get u.replies k) served.stands ∙ replied) done) in
     read_soundly (inode_of scene script_file) run.list journal n k r legal.1 load listed
     (path_there scene run (inode_of scene script_file) (newest_first journal) forms stood)
     (list_named scene ending run forms shown)

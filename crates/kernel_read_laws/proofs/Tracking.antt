@@ -4,8 +4,8 @@ use Rattle.std.proofs.Common.{◌≡◌, ℕ, zero, suc, ◌+◌, Bool, true, fa
 use Rattle.std.specs.Prelude.{◌⊎◌, ◌==◌, slice_get}
 use Rattle.std.proofs.lemmas.Bool.{eq-eqb}
 use Rattle.std.proofs.lemmas.Option.{none-some, same_Some}
-use Rattle.call_steps.specs.Mind.{Progress, Step, file_after, is_done, step_by}
-use Rattle.call_steps.specs.Mind.{Does}
+use Rattle.call_steps.specs.CallState.{Progress, Step, file_after, is_done, step_by}
+use Rattle.call_steps.specs.CallState.{Does}
 use Rattle.call_steps.specs.Steps.{admitted, after_check, after_chunk, after_count, after_finish, after_take, asks_in, goes, granted, has_read, next_by, refused, refused_by, reply_of, take}
 use Rattle.call_steps.specs.declared.ask.Ask.{Ask}
 use Rattle.call_steps.specs.declared.ask.Ask.TheVariants as ask

@@ -1,7 +1,7 @@
 -- The kernel's own reads: the calls by which it reads a module or a firmware file.
 use Rattle.std.specs.Prelude.{◌≡◌, ◌<◌, ℕ, ◌+◌, ◌==◌, Bool, true, ◌&&◌, List, [], ◌∷◌, ◌++◌, Contains, length, Option, Some, None, slice_get, if◌then◌else◌}
 use Rattle.std.specs.Option.{option_or}
-use Rattle.call_steps.specs.Mind.{is_done}
+use Rattle.call_steps.specs.CallState.{is_done}
 use Rattle.call_steps.specs.declared.call.Call.{Call}
 use Rattle.call_steps.specs.declared.call.Call.TheVariants as call
 use Rattle.call_steps.specs.declared.ending.Ending.{Ending}
@@ -31,7 +31,7 @@ use Rattle.inode_events.specs.meta.declared.step.Who.{Who}
 use Rattle.inode_events.specs.pages.Content.{bytes_at, most_bytes}
 use Rattle.shown_laws.specs.Places.{HasForms}
 use Rattle.shown_laws.specs.laws_of_journals.Executed.{IsUndisturbed, grant_event, is_check_of}
-use Rattle.shown_laws.specs.model.History.{Thought}
+use Rattle.shown_laws.specs.model.History.{Position}
 use Rattle.shown_laws.specs.model.Scene.{Program, Scene, ScriptFile, inode_of}
 use Rattle.shown_laws.specs.model.Served.{Run}
 use Rattle.shown_laws.specs.model.Shown.{IsShown}
@@ -129,10 +129,10 @@ pub record IsReadSoundly (inode : Inode) (list : List Entry) (journal : List Eve
 -- each module and firmware call that was answered with `ok` has read its file soundly
 abbrev pub AreKernelReadsSound : Scene → Run → Type 0
 AreKernelReadsSound scene run =
-    (n k i : ℕ) (p : Program) (c : Call) (t : Thought) (r : Reply) (script_file : ScriptFile)
+    (n k i : ℕ) (p : Program) (c : Call) (t : Position) (r : Reply) (script_file : ScriptFile)
     (journal : List Event)
     → slice_get scene.programs n ≡ Some p → slice_get p.calls k ≡ Some c → read_by c ≡ Some i
-    → slice_get run.thoughts n ≡ Some t → slice_get t.replies k ≡ Some r → is_done r ≡ true
+    → slice_get run.positions n ≡ Some t → slice_get t.replies k ≡ Some r → is_done r ≡ true
     → slice_get scene.script_files i ≡ Some script_file → slice_get run.journals i ≡ Some journal
     → IsReadSoundly (inode_of scene script_file) run.list journal n k r
 

@@ -7,7 +7,7 @@ use Rattle.std.proofs.lemmas.Option.{none-some, same_Some}
 use Rattle.order_outcomes.specs.Calls.{listed_in, verdict_in}
 use Rattle.order_outcomes.specs.Examples.{boot, script_file}
 use Rattle.order_outcomes.specs.declared.lines.Kind.TheVariants.{Violations}
-use Rattle.order_outcomes.specs.reports.model.History.{Thought}
+use Rattle.order_outcomes.specs.reports.model.History.{Position}
 use Rattle.order_outcomes.specs.reports.model.Scene.{ScriptFile, inode_of}
 use Rattle.order_outcomes.specs.reports.model.Turns.{Moment, journal_at, newborn}
 use Rattle.order_outcomes.specs.reports.model.events.Checks.{last_check}
@@ -82,7 +82,7 @@ sound_1 = record {
 
 -- what holds of the three files that are used holds of each
 each : (P : ℕ → Type 0) → P 0 → P 1 → P 3 → (file : ℕ)
-    → is_used first_0.thoughts 0 file ≡ true → P file
+    → is_used first_0.positions 0 file ≡ true → P file
 unfolding newest_first
 each P none one three file is =
     ⊎_elim (λ e. subst P (sym (eqb-true file 0 e)) none)
@@ -138,7 +138,7 @@ listed_1 task n =
     (no_read (0 == task && 0 == n) _ refl))))
 
 -- the names of two files that are used are equal if the files are
-apart : (f g : ℕ) → is_used first_0.thoughts 0 f ≡ true → is_used first_0.thoughts 0 g ≡ true
+apart : (f g : ℕ) → is_used first_0.positions 0 f ≡ true → is_used first_0.positions 0 g ≡ true
     → (swapped f == swapped g) ≡ (f == g)
 apart f g is is2 =
     each (λ x. (swapped x == swapped g) ≡ (x == g))
@@ -148,7 +148,7 @@ apart f g is is2 =
 
 -- the journals are alike under these names
 inode : IsInodeAlike (inode_of readers script_file) first_0.state.list first_1.state.list
-    (is_used first_0.thoughts 0) swapped journal_0 journal_1
+    (is_used first_0.positions 0) swapped journal_0 journal_1
 unfolding newest_first
 inode = record {
   sound = sound_0;
@@ -193,13 +193,13 @@ elsewhere (suc i) e file = refl
 -- the file is the only one
 inodes : (i : ℕ) (s : ScriptFile) → slice_get readers.script_files i ≡ Some s
     → IsInodeAlike (inode_of readers s) first_0.state.list first_1.state.list
-    (is_used first_0.thoughts i) (names i)
+    (is_used first_0.positions i) (names i)
     (journal_at first_0.state i) (journal_at first_1.state i)
 unfolding newest_first
 inodes zero s e =
     subst (λ (x : ScriptFile). IsInodeAlike (inode_of readers x) first_0.state.list
     first_1.state.list
-    (is_used first_0.thoughts 0) swapped journal_0 journal_1) (same_Some script_file s e) inode
+    (is_used first_0.positions 0) swapped journal_0 journal_1) (same_Some script_file s e) inode
 inodes (suc i) s e = absurd (none-some s e)
 
 -- both moments are alike
@@ -208,7 +208,7 @@ unfolding newest_first
 either_first = record {
   none = none;
   elsewhere = elsewhere;
-  thoughts = refl;
+  positions = refl;
   inodes = inodes;
   lists = lists_itself first_0.state.list;
   added = refl;
@@ -218,26 +218,26 @@ either_first = record {
 -- ---- others
 
 -- how many calls of the first task are answered
-abbrev answered : List Thought → ℕ
+abbrev answered : List Position → ℕ
 answered [] = 0
 answered (t ∷ ts) = length t.replies
 
 -- whether the first task is in a call
-abbrev in_call : List Thought → Bool
+abbrev in_call : List Position → Bool
 in_call [] = false
-in_call (t ∷ ts) = is_some t.mind.progress
+in_call (t ∷ ts) = is_some t.call_state.progress
 
 -- the first task has its answer in one of them
 only_one : IsAlike readers (after (0 ∷ 0 ∷ [])) (after (1 ∷ 1 ∷ [])) → ⊥
 unfolding newest_first
-only_one (inl e) = let same = ap (λ (m : Moment). answered m.thoughts) e in omega (arith, same)
-only_one (inr x) = let same = ap answered x.1.thoughts in omega (arith, same)
+only_one (inl e) = let same = ap (λ (m : Moment). answered m.positions) e in omega (arith, same)
+only_one (inr x) = let same = ap answered x.1.positions in omega (arith, same)
 
 -- the first task is in a call in one of them
 further : IsOther (after (0 ∷ []))
 unfolding newest_first
-further (inl e) = true≢false (sym (ap (λ (m : Moment). in_call m.thoughts) e))
-further (inr x) = true≢false (ap in_call x.1.thoughts)
+further (inl e) = true≢false (sym (ap (λ (m : Moment). in_call m.positions) e))
+further (inr x) = true≢false (ap in_call x.1.positions)
 
 -- the file has a reader in one of them
 other_count : IsOther (with_event (deed.Count (how.Read false)) told.Held)
@@ -308,7 +308,7 @@ other_order : IsAlikeBy readers own (with_entries two) (with_entries three)
 other_order = record {
   none = λ i. refl;
   elsewhere = λ i e file. refl;
-  thoughts = refl;
+  positions = refl;
   inodes = inodes_two;
   lists = record {
     lines = λ kind. lines_same kind (boot ∷ two) (boot ∷ three) in_three in_two;
@@ -320,14 +320,14 @@ other_order = record {
   where
     inodes_two : (i : ℕ) (s : ScriptFile) → slice_get readers.script_files i ≡ Some s
         → IsInodeAlike (inode_of readers s) (boot ∷ two) (boot ∷ three)
-        (is_used (with_entries two).thoughts i) (own i)
+        (is_used (with_entries two).positions i) (own i)
         (journal_at (with_entries two).state i) (journal_at (with_entries three).state i)
     inodes_two zero s e =
         subst (λ (x : ScriptFile). IsInodeAlike (inode_of readers x) (boot ∷ two) (boot ∷ three)
-        (is_used (with_entries two).thoughts 0) (own 0) (newborn script_file) (newborn script_file))
-        (same_Some script_file s e)
+        (is_used (with_entries two).positions 0) (own 0) (newborn script_file)
+        (newborn script_file)) (same_Some script_file s e)
         (birth_alike (inode_of readers script_file) (boot ∷ two) (boot ∷ three)
-        (is_used (with_entries two).thoughts 0) script_file
+        (is_used (with_entries two).positions 0) script_file
         (λ file u. start_used 0 file readers.programs u))
     inodes_two (suc i) s e = absurd (none-some s e)
 

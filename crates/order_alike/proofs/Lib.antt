@@ -16,7 +16,7 @@ pub mod InodeSound
 pub mod Inodes
 pub mod MomentNames
 pub mod MomentSteps
-pub mod MomentThoughts
+pub mod MomentPositions
 pub mod MomentAfter
 pub mod MomentTasks
 pub mod MomentAlong

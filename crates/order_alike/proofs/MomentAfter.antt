@@ -5,7 +5,7 @@ use Rattle.std.specs.List.{list_any}
 use Rattle.std.proofs.lemmas.Bool.{cases_eq, eq-eqb, eqb-true, ne_eqb, or_right}
 use Rattle.std.proofs.lemmas.List.{get_or-set_other, get_or-set_same, map-set}
 use Rattle.std.proofs.lemmas.Option.{none-some, same_Some}
-use Rattle.order_outcomes.specs.reports.model.History.{Thought, event}
+use Rattle.order_outcomes.specs.reports.model.History.{Position, event}
 use Rattle.order_outcomes.specs.reports.model.Scene.{Scene, ScriptFile, inode_of}
 use Rattle.order_outcomes.specs.reports.model.Turns.{Moment, journal_at, state_on}
 use Rattle.order_outcomes.specs.reports.model.events.Asked.{asked, list_after, outcome, placed_for}
@@ -23,13 +23,13 @@ use Rattle.order_outcomes.specs.reports.model.events.templates.declared.entry.En
 use Rattle.order_outcomes.specs.reports.model.events.templates.declared.entry.Placed.{Placed}
 use Rattle.order_outcomes.specs.reports.model.rules.declared.cell.RuleEntry.{RuleEntry}
 use Rattle.order_alike.specs.Alike.{AreListsAlike, IsAlikeBy, IsInodeAlike}
-use Rattle.order_alike.specs.Names.{Naming, has_file, is_used, thought_named}
+use Rattle.order_alike.specs.Names.{Naming, has_file, is_used, position_named}
 use Rattle.order_alike.proofs.InodeLaws.{InodeLaws, IsUsed, deed_named, file_in, named_after}
 use Rattle.order_alike.proofs.InodeLists.{lists_after}
 use Rattle.order_alike.proofs.InodePlaces.{after_longer}
 use Rattle.order_alike.proofs.InodeRetold.{told_with}
 use Rattle.order_alike.proofs.MomentNames.{KeepsApart}
-use Rattle.order_alike.proofs.MomentThoughts.{Covers, thoughts_agree, used_after}
+use Rattle.order_alike.proofs.MomentPositions.{Covers, positions_agree, used_after}
 
 -- ---- the names after an event
 
@@ -113,7 +113,7 @@ says_same a b same _ = refl
 module _ (laws : InodeLaws) (scene : Scene) (r : Naming) (a b : Moment)
     (alike : IsAlikeBy scene r a b) where
   abbrev used : ℕ → ℕ → Bool
-  used = is_used a.thoughts
+  used = is_used a.positions
 
   -- different files of the first moment have different names in the second
   pub keeps_apart : KeepsApart r used
@@ -140,33 +140,33 @@ module _ (laws : InodeLaws) (scene : Scene) (r : Naming) (a b : Moment)
   -- ---- a step that is no event of an inode
 
   -- the moment with other signals and rules, and the task after its step
-  abbrev with_rest : Moment → ℕ → List Event → List RuleEntry → Thought → Moment
+  abbrev with_rest : Moment → ℕ → List Event → List RuleEntry → Position → Moment
   with_rest m n signals added t = record {
     state = record m.state { signals = signals; added = added };
-    thoughts = slice_set m.thoughts n t;
+    positions = slice_set m.positions n t;
   }
 
   -- the moments are alike after a step that has the same effect in both
-  pub rest_alike : (n : ℕ) (ga gb : List Event) (xa xb : List RuleEntry) (ta tb : Thought)
-      → Covers used ta → tb ≡ thought_named r ta → xb ≡ xa
+  pub rest_alike : (n : ℕ) (ga gb : List Event) (xa xb : List RuleEntry) (ta tb : Position)
+      → Covers used ta → tb ≡ position_named r ta → xb ≡ xa
       → ((sem : ℕ) → SameCount sem (newest_first ga) (newest_first gb))
       → IsAlikeBy scene r (with_rest a n ga xa ta) (with_rest b n gb xb tb)
   rest_alike n ga gb xa xb ta tb covers named added counts = record {
     none = alike.none;
     elsewhere = alike.elsewhere;
-    thoughts = (λ j. slice_set (alike.thoughts j) n (named j))
-        ∙ sym (map-set (thought_named r) a.thoughts n ta);
+    positions = (λ j. slice_set (alike.positions j) n (named j))
+        ∙ sym (map-set (position_named r) a.positions n ta);
     inodes = λ i s e. laws.fewer (inode_of scene s) a.state.list b.state.list (used i)
-        (is_used (slice_set a.thoughts n ta) i) (r i) (journal_at a.state i) (journal_at b.state i)
+        (is_used (slice_set a.positions n ta) i) (r i) (journal_at a.state i) (journal_at b.state i)
         (alike.inodes i s e) (fewer i);
     lists = alike.lists;
     added = added;
     semaphores = counts;
   }
     where
-      fewer : (i file : ℕ) → is_used (slice_set a.thoughts n ta) i file ≡ true
+      fewer : (i file : ℕ) → is_used (slice_set a.positions n ta) i file ≡ true
           → used i file ≡ true
-      fewer i file is = ⊎_elim (λ old. old) (covers i file) (used_after a.thoughts n ta i file is)
+      fewer i file is = ⊎_elim (λ old. old) (covers i file) (used_after a.positions n ta i file is)
 
   -- ---- an event of an inode
 
@@ -214,14 +214,14 @@ module _ (laws : InodeLaws) (scene : Scene) (r : Naming) (a b : Moment)
         (journal_at a.state i) (journal_at b.state i) d this is
 
     -- the moment after an event on the inode
-    abbrev with_event : Moment → ℕ → Who → Deed → Told → Thought → Moment
+    abbrev with_event : Moment → ℕ → Who → Deed → Told → Position → Moment
     with_event m n who d t after = record {
       state = state_on m.state i (inode_of scene s) who d (Some t);
-      thoughts = slice_set m.thoughts n after;
+      positions = slice_set m.positions n after;
     }
 
     -- the event is appended to the journal
-    journal_grown : (m : Moment) (n : ℕ) (who : Who) (d : Deed) (t : Told) (u : Thought)
+    journal_grown : (m : Moment) (n : ℕ) (who : Who) (d : Deed) (t : Told) (u : Position)
         → 0 < length (journal_at m.state i)
         → journal_at (with_event m n who d t u).state i
         ≡ journal_at m.state i ++ event who d t ∷ []
@@ -236,15 +236,15 @@ module _ (laws : InodeLaws) (scene : Scene) (r : Naming) (a b : Moment)
 
     -- An event in both moments. The task takes its outcome, and has no other file than before,
     -- unless the event has counted one
-    module _ (n : ℕ) (who : Who) (d : Deed) (t : Told) (ta tb : Thought)
+    module _ (n : ℕ) (who : Who) (d : Deed) (t : Told) (ta tb : Position)
         (is : IsUsed (used i) (file_in d))
         (out : outcome (inode_of scene s) a.state.list d (newest_first (journal_at a.state i))
-        ≡ Some t) (named : tb ≡ thought_named after ta)
+        ≡ Some t) (named : tb ≡ position_named after ta)
         (files : (k file : ℕ) → has_file k file ta ≡ true
         → (used k file ≡ true) ⊎ ((k ≡ i) × ((file ≡ place_in i) × (is_some (counted d t) ≡ true))))
       where
         abbrev used2 : ℕ → ℕ → Bool
-        used2 = is_used (slice_set a.thoughts n ta)
+        used2 = is_used (slice_set a.positions n ta)
 
         -- the entry that it asks for, and the lists after it
         abbrev asks : Option Entry
@@ -290,7 +290,7 @@ module _ (laws : InodeLaws) (scene : Scene) (r : Naming) (a b : Moment)
         files_here file has =
             ⊎_elim (λ old. inl old)
             (λ new. ⊎_elim (λ old. inl old) (λ it. inr (it.1.0, it.1.1)) (files i file new))
-            (used_after a.thoughts n ta i file has)
+            (used_after a.positions n ta i file has)
 
         -- the journals with the event are alike
         here : Inode2 s i (after i) (journal_at after_a.state i) (journal_at after_b.state i)
@@ -315,7 +315,7 @@ module _ (laws : InodeLaws) (scene : Scene) (r : Naming) (a b : Moment)
         files_there k ne file has =
             ⊎_elim (λ old. old)
             (λ new. ⊎_elim (λ old. old) (λ it. absurd (ne it.0)) (files k file new))
-            (used_after a.thoughts n ta k file has)
+            (used_after a.positions n ta k file has)
 
         -- the journals of other inodes still are
         there : (k : ℕ) (script_file : ScriptFile)
@@ -356,15 +356,15 @@ module _ (laws : InodeLaws) (scene : Scene) (r : Naming) (a b : Moment)
         -- the moments after the event are alike
         pub event_alike : IsAlikeBy scene after after_a after_b
         event_alike =
-            let thoughts = alike.thoughts ∙ thoughts_agree r after used keeps_names a.thoughts
-            (λ k file any. or_right (file == 0) (list_any (has_file k file) a.thoughts) any) in
+            let positions = alike.positions ∙ positions_agree r after used keeps_names a.positions
+            (λ k file any. or_right (file == 0) (list_any (has_file k file) a.positions) any) in
             record {
               none = λ k. sym (keeps_names k 0 refl) ∙ alike.none k;
               elsewhere = λ k none file. ap (λ (f : ℕ → ℕ). f file)
                   (naming_other r i (place_in i) (place_in2 i) k (not_here k none))
                   ∙ alike.elsewhere k none file;
-              thoughts = (λ j. slice_set (thoughts j) n (named j))
-                  ∙ sym (map-set (thought_named after) a.thoughts n ta);
+              positions = (λ j. slice_set (positions j) n (named j))
+                  ∙ sym (map-set (position_named after) a.positions n ta);
               inodes = λ k script_file e.
                   subst (λ (o : Option Entry). IsInodeAlike (inode_of scene script_file) list_a
                   (list_after b.state.list o (Some t2)) (used2 k) (after k)

@@ -3,13 +3,13 @@
 use Rattle.std.proofs.Common.{◌≡◌, ℕ, ◌==◌, true, ◌&&◌, List, [], ◌∷◌, map, Option, Some, None, option_map, refl, ap, sym, subst, ◌∙◌, inl, inr, ⊎_elim, arith}
 use Rattle.std.specs.List.{list_any}
 use Rattle.std.proofs.lemmas.Bool.{and_from, and_parts, eq-eqb, eqb-true, or_cases, or_left, or_right}
-use Rattle.order_outcomes.specs.reports.model.History.{Thought}
+use Rattle.order_outcomes.specs.reports.model.History.{Position}
 use Rattle.order_outcomes.specs.reports.model.Scene.{Scene, inode_of}
 use Rattle.order_outcomes.specs.reports.model.Turns.{Moment, journal_at}
-use Rattle.order_outcomes.specs.reports.model.steps.Mind.{Progress}
+use Rattle.order_outcomes.specs.reports.model.steps.CallState.{Progress}
 use Rattle.order_outcomes.specs.reports.model.steps.declared.held.Handle.{Handle}
 use Rattle.order_alike.specs.Alike.{IsAlike, IsAlikeBy}
-use Rattle.order_alike.specs.Names.{Naming, handle_named, has_file, in_handles, in_progress, is_used, progress_named, thought_named}
+use Rattle.order_alike.specs.Names.{Naming, handle_named, has_file, in_handles, in_progress, is_used, position_named, progress_named}
 use Rattle.order_alike.proofs.InodeLaws.{InodeLaws}
 use Rattle.order_alike.proofs.InodeLists.{lists_along}
 
@@ -34,14 +34,16 @@ progress_composed r r2 None = refl
 progress_composed r r2 (Some g) = refl
 
 -- the tasks have the composed names
-thoughts_composed : (r r2 : Naming) (ts : List Thought)
-    → map (thought_named r2) (map (thought_named r) ts) ≡ map (thought_named (composed r r2)) ts
-thoughts_composed r r2 [] = refl
-thoughts_composed r r2 (t ∷ ts) =
-    let progress = progress_composed r r2 t.mind.progress in
-    let handles = handles_composed r r2 t.mind.handles in
-    let rest = thoughts_composed r r2 ts in
-    λ j. record t { mind = record t.mind { progress = progress j; handles = handles j } } ∷ rest j
+positions_composed : (r r2 : Naming) (ts : List Position)
+    → map (position_named r2) (map (position_named r) ts) ≡ map (position_named (composed r r2)) ts
+positions_composed r r2 [] = refl
+positions_composed r r2 (t ∷ ts) =
+    let progress = progress_composed r r2 t.call_state.progress in
+    let handles = handles_composed r r2 t.call_state.handles in
+    let rest = positions_composed r r2 ts in
+    λ j. record t {
+      call_state = record t.call_state { progress = progress j; handles = handles j };
+    } ∷ rest j
 
 -- ---- the files that are used
 
@@ -73,34 +75,35 @@ module _ (r : Naming) (i file : ℕ) where
       (or_cases (h.inode == i && h.file == file) (in_handles i file hs) is)
 
   -- a file that a task has, by its other name
-  has_file-named : (t : Thought) → has_file i file t ≡ true
-      → has_file i (r i file) (thought_named r t) ≡ true
+  has_file-named : (t : Position) → has_file i file t ≡ true
+      → has_file i (r i file) (position_named r t) ≡ true
   has_file-named t is =
-      let progress = option_map (progress_named r) t.mind.progress in
-      let handles = map (handle_named r) t.mind.handles in
+      let progress = option_map (progress_named r) t.call_state.progress in
+      let handles = map (handle_named r) t.call_state.handles in
       ⊎_elim
       (λ here. or_left (in_progress i (r i file) progress) (in_handles i (r i file) handles)
-      (in_progress-named t.mind.progress here))
+      (in_progress-named t.call_state.progress here))
       (λ more. or_right (in_progress i (r i file) progress) (in_handles i (r i file) handles)
-      (in_handles-named t.mind.handles more))
-      (or_cases (in_progress i file t.mind.progress) (in_handles i file t.mind.handles) is)
+      (in_handles-named t.call_state.handles more))
+      (or_cases (in_progress i file t.call_state.progress)
+      (in_handles i file t.call_state.handles) is)
 
   -- a file that some task has, by its other name
-  any_named : (ts : List Thought) → list_any (has_file i file) ts ≡ true
-      → list_any (has_file i (r i file)) (map (thought_named r) ts) ≡ true
+  any_named : (ts : List Position) → list_any (has_file i file) ts ≡ true
+      → list_any (has_file i (r i file)) (map (position_named r) ts) ≡ true
   any_named [] is = is
   any_named (t ∷ ts) is =
-      let rest = list_any (has_file i (r i file)) (map (thought_named r) ts) in
+      let rest = list_any (has_file i (r i file)) (map (position_named r) ts) in
       ⊎_elim
-      (λ here. or_left (has_file i (r i file) (thought_named r t)) rest (has_file-named t here))
-      (λ more. or_right (has_file i (r i file) (thought_named r t)) rest (any_named ts more))
+      (λ here. or_left (has_file i (r i file) (position_named r t)) rest (has_file-named t here))
+      (λ more. or_right (has_file i (r i file) (position_named r t)) rest (any_named ts more))
       (or_cases (has_file i file t) (list_any (has_file i file) ts) is)
 
   -- a file that is used in the first moment is used in the second, by its name there
-  pub used_named : r i 0 ≡ 0 → (ts : List Thought) → is_used ts i file ≡ true
-      → is_used (map (thought_named r) ts) i (r i file) ≡ true
+  pub used_named : r i 0 ≡ 0 → (ts : List Position) → is_used ts i file ≡ true
+      → is_used (map (position_named r) ts) i (r i file) ≡ true
   used_named none ts is =
-      let rest = list_any (has_file i (r i file)) (map (thought_named r) ts) in
+      let rest = list_any (has_file i (r i file)) (map (position_named r) ts) in
       ⊎_elim
       (λ zero. or_left (r i file == 0) rest
       (eq-eqb (r i file) 0 (ap (r i) (eqb-true file 0 zero) ∙ none)))
@@ -115,13 +118,13 @@ by_both : InodeLaws → (scene : Scene) (r r2 : Naming) (a b c : Moment) → IsA
 by_both laws scene r r2 a b c x y = record {
   none = λ i. ap (r2 i) (x.none i) ∙ y.none i;
   elsewhere = λ i e file. y.elsewhere i e (r i file) ∙ x.elsewhere i e file;
-  thoughts = y.thoughts ∙ ap (map (thought_named r2)) x.thoughts
-      ∙ thoughts_composed r r2 a.thoughts;
+  positions = y.positions ∙ ap (map (position_named r2)) x.positions
+      ∙ positions_composed r r2 a.positions;
   inodes = λ i s e. laws.along (inode_of scene s) a.state.list b.state.list c.state.list
-      (is_used a.thoughts i) (is_used b.thoughts i) (r i) (r2 i) (journal_at a.state i)
+      (is_used a.positions i) (is_used b.positions i) (r i) (r2 i) (journal_at a.state i)
       (journal_at b.state i) (journal_at c.state i) (x.inodes i s e) (y.inodes i s e)
-      (λ file is. ap (λ (ts : List Thought). is_used ts i (r i file)) x.thoughts
-      ∙ used_named r i file (x.none i) a.thoughts is);
+      (λ file is. ap (λ (ts : List Position). is_used ts i (r i file)) x.positions
+      ∙ used_named r i file (x.none i) a.positions is);
   lists = lists_along a.state.list b.state.list c.state.list x.lists y.lists;
   added = y.added ∙ x.added;
   semaphores = λ sem. let ab = x.semaphores sem in let bc = y.semaphores sem in

@@ -11,7 +11,7 @@ use Rattle.order_outcomes.specs.reports.Numerals.{numeral}
 use Rattle.order_outcomes.specs.reports.Report.{reply_words}
 use Rattle.order_outcomes.specs.reports.model.Ended.{is_done}
 use Rattle.order_outcomes.specs.reports.model.EndedValue.{EndedTaskValue, inodes_ended, tasks_ended}
-use Rattle.order_outcomes.specs.reports.model.History.{Thought}
+use Rattle.order_outcomes.specs.reports.model.History.{Position}
 use Rattle.order_outcomes.specs.reports.model.Scene.{Program, Scene, ScriptFile}
 use Rattle.order_outcomes.specs.reports.model.Turns.{Moment, journal_at}
 use Rattle.order_outcomes.specs.reports.model.events.EndedInode.{EndedInodeValue}
@@ -20,7 +20,7 @@ use Rattle.order_outcomes.specs.reports.model.events.declared.told.Event.{Event}
 use Rattle.order_outcomes.specs.reports.model.events.templates.declared.entry.Entry.{Entry}
 use Rattle.order_outcomes.specs.reports.model.steps.declared.reply.Reply.{Reply}
 use Rattle.order_alike.specs.Alike.{IsAlike, IsAlikeBy}
-use Rattle.order_alike.specs.Names.{Naming, thought_named}
+use Rattle.order_alike.specs.Names.{Naming, position_named}
 
 -- the journals of an inode tell the same of each call
 record TellSame (list list2 : List Entry) (j j2 : List Event) : Type 0 where
@@ -101,8 +101,8 @@ module _ (list list2 : List Entry) (is is2 : List EndedInodeValue)
       λ j. (codes "task " ++ numeral task ++ done_text t.done ++ calls j) ++ rest j
 
 -- the replies don't depend on the names of files
-tasks_named : (r : Naming) (ps : List Program) (ts : List Thought)
-    → tasks_ended ps (map (thought_named r) ts) ≡ tasks_ended ps ts
+tasks_named : (r : Naming) (ps : List Program) (ts : List Position)
+    → tasks_ended ps (map (position_named r) ts) ≡ tasks_ended ps ts
 tasks_named r [] ts = refl
 tasks_named r (p ∷ ps) [] = refl
 tasks_named r (p ∷ ps) (t ∷ ts) =
@@ -124,19 +124,19 @@ outcome_same : (scene : Scene) (r : Naming) (a b : Moment) → IsAlikeBy scene r
 outcome_same scene r a b alike =
     let is = inodes_ended scene scene.script_files a.state.journals in
     let is2 = inodes_ended scene scene.script_files b.state.journals in
-    let tasks = ap (tasks_ended scene.programs) alike.thoughts
-    ∙ tasks_named r scene.programs a.thoughts in
+    let tasks = ap (tasks_ended scene.programs) alike.positions
+    ∙ tasks_named r scene.programs a.positions in
     let measured = alike.lists.lines Measurements in
     let violations = alike.lists.lines Violations in
     let same : outcome_at scene b ≡ outcome_by (lines_of Measurements a.state.list)
-    (lines_of Violations a.state.list) b.state.list is2 (tasks_ended scene.programs a.thoughts)
+    (lines_of Violations a.state.list) b.state.list is2 (tasks_ended scene.programs a.positions)
     = λ j. outcome_by (measured j) (violations j) b.state.list is2 (tasks j) in
     let texts = tasks_same a.state.list b.state.list is is2
     (λ task n. verdicts_same a.state.list b.state.list scene task n scene.script_files
     a.state.journals b.state.journals tell)
     (λ task n. listed_same a.state.list b.state.list scene task n scene.script_files
     a.state.journals b.state.journals tell)
-    0 (tasks_ended scene.programs a.thoughts) in
+    0 (tasks_ended scene.programs a.positions) in
     sym (same ∙ ap (λ (text : List ℕ). lines_text Measurements (lines_of Measurements a.state.list)
     ++ lines_text Violations (lines_of Violations a.state.list) ++ text) texts)
   where

@@ -3,7 +3,7 @@ use Rattle.std.proofs.Common.{◌≡◌, ℕ, ◌+◌, ◌==◌, Bool, true, fal
 use Rattle.std.proofs.lemmas.Bool.{and_from, eq-eqb, eqb-true, or_left, or_right}
 use Rattle.std.proofs.lemmas.Option.{none-some, same_Some}
 use Rattle.order_outcomes.specs.reports.model.steps.Handles.{hand_of, handle_of, held_by, is_free_for, name_made, name_used, names_of, same_name}
-use Rattle.order_outcomes.specs.reports.model.steps.Mind.{Mind, Progress, begun, file_of, how_held, inode_of, progress_of}
+use Rattle.order_outcomes.specs.reports.model.steps.CallState.{CallState, Progress, begun, file_of, how_held, inode_of, progress_of}
 use Rattle.order_outcomes.specs.reports.model.steps.Steps.{first}
 use Rattle.order_outcomes.specs.reports.model.steps.declared.call.Call.{Call}
 use Rattle.order_outcomes.specs.reports.model.steps.declared.call.Call.TheVariants as call
@@ -11,7 +11,7 @@ use Rattle.order_outcomes.specs.reports.model.steps.declared.held.Hand.{Hand}
 use Rattle.order_outcomes.specs.reports.model.steps.declared.held.Handle.{Handle}
 use Rattle.order_outcomes.specs.reports.model.steps.declared.held.Held.{Held}
 use Rattle.order_outcomes.specs.reports.model.steps.declared.held.Name.{Name}
-use Rattle.order_alike.specs.Names.{Naming, handle_named, in_handles, mind_named, progress_named}
+use Rattle.order_alike.specs.Names.{Naming, call_state_named, handle_named, in_handles, progress_named}
 
 -- different files that are used have different names, and a file without a name keeps it so
 pub record KeepsApart (r : Naming) (used : ℕ → ℕ → Bool) : Type 0 where
@@ -244,8 +244,8 @@ module _ (r : Naming) (used : ℕ → ℕ → Bool) (keeps : KeepsApart r used) 
   -- ---- the present call
 
   -- its progress has the file's other name
-  pub progress_of-named : (admin : Bool) (c : Call) (m : Mind) → AreUsed used m.handles
-      → progress_of admin c (mind_named r m) ≡ progress_named r (progress_of admin c m)
+  pub progress_of-named : (admin : Bool) (c : Call) (m : CallState) → AreUsed used m.handles
+      → progress_of admin c (call_state_named r m) ≡ progress_named r (progress_of admin c m)
   progress_of-named admin c m all = by m.progress
     where
       by : (o : Option Progress)
@@ -259,7 +259,7 @@ module _ (r : Naming) (used : ℕ → ℕ → Bool) (keeps : KeepsApart r used) 
           ∙ begun_by-named c hand.held hand.free admin (inode_held c m.handles)
 
   -- its file is used
-  pub progress_of-used : (admin : Bool) (c : Call) (m : Mind) → AreUsed used m.handles
+  pub progress_of-used : (admin : Bool) (c : Call) (m : CallState) → AreUsed used m.handles
       → ((g : Progress) → m.progress ≡ Some g → used g.inode g.file ≡ true)
       → used (progress_of admin c m).inode (progress_of admin c m).file ≡ true
   progress_of-used admin c m all present = by m.progress present

@@ -5,8 +5,8 @@ use Rattle.std.proofs.Math.Bool.{or-false}
 use Rattle.std.proofs.lemmas.List.{map-append}
 use Rattle.std.proofs.lemmas.List.Folds.{list_any-append}
 use Rattle.order_outcomes.specs.reports.model.steps.Handles.{name_ended, name_made, same_name, without}
-use Rattle.order_outcomes.specs.reports.model.steps.Mind.{Mind, Progress, Step, deed_of, file_after, handle_made, handles_after, handles_left, is_done, moved, plain_step, step_by}
-use Rattle.order_outcomes.specs.reports.model.steps.Mind.{Nothing, Does, Checks, Signals, Appends}
+use Rattle.order_outcomes.specs.reports.model.steps.CallState.{CallState, Progress, Step, deed_of, file_after, handle_made, handles_after, handles_left, is_done, moved, plain_step, step_by}
+use Rattle.order_outcomes.specs.reports.model.steps.CallState.{Nothing, Does, Checks, Signals, Appends}
 use Rattle.order_outcomes.specs.reports.model.steps.declared.ask.Ask.{Ask}
 use Rattle.order_outcomes.specs.reports.model.steps.declared.ask.Ask.TheVariants as ask
 use Rattle.order_outcomes.specs.reports.model.steps.declared.call.Call.{Call}
@@ -17,7 +17,7 @@ use Rattle.order_outcomes.specs.reports.model.steps.declared.due.Next.TheVariant
 use Rattle.order_outcomes.specs.reports.model.steps.declared.held.Handle.{Handle}
 use Rattle.order_outcomes.specs.reports.model.steps.declared.held.Name.{Name}
 use Rattle.order_outcomes.specs.reports.model.steps.declared.reply.Reply.{Reply}
-use Rattle.order_alike.specs.Names.{Naming, handle_named, in_handles, in_progress, mind_named, progress_named}
+use Rattle.order_alike.specs.Names.{Naming, call_state_named, handle_named, in_handles, in_progress, progress_named}
 use Rattle.order_alike.proofs.InodeLaws.{IsUsed, deed_named, file_in}
 use Rattle.order_alike.proofs.MomentNames.{AreUsed, rest_used}
 
@@ -123,17 +123,17 @@ handles_after-named r c g rep hs = by (is_done rep)
 -- ---- after the step
 
 -- the task with other names of its files, and its reply
-abbrev pub after_named : Naming → Mind × Option Reply → Mind × Option Reply
-after_named r x = (mind_named r x.0, x.1)
+abbrev pub after_named : Naming → CallState × Option Reply → CallState × Option Reply
+after_named r x = (call_state_named r x.0, x.1)
 
 -- If the files of the task have names r before the step and r2 after it, so has the task
-pub moved_named : (r r2 : Naming) (c : Call) (m : Mind) (g : Progress) (place place2 : ℕ)
+pub moved_named : (r r2 : Naming) (c : Call) (m : CallState) (g : Progress) (place place2 : ℕ)
     (next : Next)
     → map (handle_named r) m.handles ≡ map (handle_named r2) m.handles
     → r g.inode g.file ≡ r2 g.inode g.file
     → file_after g.due.ask place2 (r g.inode g.file)
     ≡ r2 g.inode (file_after g.due.ask place g.file)
-    → moved c (mind_named r m) (progress_named r g) place2 next
+    → moved c (call_state_named r m) (progress_named r g) place2 next
     ≡ after_named r2 (moved c m g place next)
 moved_named r r2 c m g place place2 (On s) hs same file = λ j. (
   record {
@@ -226,7 +226,7 @@ module _ (used : ℕ → ℕ → Bool) where
   progress_used g _ s place i file is at = inl (at_file i file g.inode g.file is at)
 
   -- each file of the task after its step was used, or the step has counted it
-  pub moved_used : (c : Call) (m : Mind) (g : Progress) (place : ℕ) (next : Next)
+  pub moved_used : (c : Call) (m : CallState) (g : Progress) (place : ℕ) (next : Next)
       → AreUsed used m.handles → used g.inode g.file ≡ true → (i file : ℕ)
       → (in_progress i file (moved c m g place next).0.progress
       || in_handles i file (moved c m g place next).0.handles) ≡ true

@@ -4,10 +4,10 @@ use Rattle.std.proofs.Common.{◌≡◌, ℕ, ◌++◌, ◌∷◌, [], ◌⊎◌
 use Rattle.std.proofs.lemmas.Option.{slice_get-map}
 use Rattle.order_outcomes.specs.counts.Layers.{BothOrNone}
 use Rattle.order_outcomes.specs.Orders.{moved}
-use Rattle.order_outcomes.specs.reports.model.History.{Thought, call_at, event, hear, hear_in, step_in, thought_with, who_at, who_in}
+use Rattle.order_outcomes.specs.reports.model.History.{Position, call_at, event, position_with, resume, resume_in, step_in, who_at, who_in}
 use Rattle.order_outcomes.specs.reports.model.Rounds.{is_moved, moves_at}
 use Rattle.order_outcomes.specs.reports.model.Scene.{Program, Scene, ScriptFile, decided, inode_of, mode_of, rules_with}
-use Rattle.order_outcomes.specs.reports.model.Turns.{Moment, State, Turned, hear_told, journal_at, state_on, step_check, step_does, step_due, step_event, step_signal, step_task, turn_of, turned}
+use Rattle.order_outcomes.specs.reports.model.Turns.{Moment, State, Turned, journal_at, resume_told, state_on, step_check, step_does, step_due, step_event, step_signal, step_task, turn_of, turned}
 use Rattle.order_outcomes.specs.reports.model.events.Asked.{made, outcome}
 use Rattle.order_outcomes.specs.reports.model.events.Checks.{no_action}
 use Rattle.order_outcomes.specs.reports.model.events.Files.{counted}
@@ -28,9 +28,9 @@ use Rattle.order_outcomes.specs.reports.model.policy.declared.access.Action.{Act
 use Rattle.order_outcomes.specs.reports.model.policy.declared.rule.Func.{Func}
 use Rattle.order_outcomes.specs.reports.model.events.templates.declared.entry.Placed.{Placed}
 use Rattle.order_outcomes.specs.reports.model.rules.declared.cell.RuleEntry.{RuleEntry}
-use Rattle.order_outcomes.specs.reports.model.steps.Mind.{Progress, Step, deed_of, file_after, plain_step, progress_of, step_by}
-use Rattle.order_outcomes.specs.reports.model.steps.Mind.{moved as moved_on}
-use Rattle.order_outcomes.specs.reports.model.steps.Mind.{Nothing, Does, Checks, Signals, Appends}
+use Rattle.order_outcomes.specs.reports.model.steps.CallState.{Progress, Step, deed_of, file_after, plain_step, progress_of, step_by}
+use Rattle.order_outcomes.specs.reports.model.steps.CallState.{moved as moved_on}
+use Rattle.order_outcomes.specs.reports.model.steps.CallState.{Nothing, Does, Checks, Signals, Appends}
 use Rattle.order_outcomes.specs.reports.model.steps.Steps.{after_count, course_of, next, next_by}
 use Rattle.order_outcomes.specs.reports.model.steps.declared.ask.Ask.{Ask}
 use Rattle.order_outcomes.specs.reports.model.steps.declared.ask.Ask.TheVariants as ask
@@ -41,13 +41,13 @@ use Rattle.order_outcomes.specs.reports.model.steps.declared.due.Next.{Next}
 use Rattle.order_outcomes.specs.reports.model.steps.declared.reply.Reply.{Reply}
 use Rattle.order_outcomes.specs.reports.model.declared.turn.Turn.TheVariants as turns
 use Rattle.order_alike.specs.Alike.{IsAlike, IsAlikeBy, IsRenamed}
-use Rattle.order_alike.specs.Names.{Naming, has_file, is_used, progress_named, thought_named}
+use Rattle.order_alike.specs.Names.{Naming, has_file, is_used, position_named, progress_named}
 use Rattle.order_alike.proofs.InodeLaws.{InodeLaws, IsUsed, deed_named, file_in}
 use Rattle.order_alike.proofs.InodeRetold.{told_with}
 use Rattle.order_alike.proofs.MomentAfter.{SameCount, count_more, event_alike, keeps_apart, keeps_names, naming_after, naming_new, outcome_alike, reply2, rest_alike, says_same}
 use Rattle.order_alike.proofs.MomentNames.{KeepsApart, progress_of-named, progress_of-used}
 use Rattle.order_alike.proofs.MomentSteps.{IsNew, deed_of-used, moved_named, moved_used, step_by-named, step_named}
-use Rattle.order_alike.proofs.MomentThoughts.{Covers, covers_at, handles_agree, handles_used, progress_used}
+use Rattle.order_alike.proofs.MomentPositions.{Covers, covers_at, handles_agree, handles_used, progress_used}
 
 -- ---- the step that counts a file
 
@@ -100,7 +100,7 @@ next_with q mode course k rep t action = refl
 
 -- a moment after a turn of task n
 abbrev pub with_turned : Moment → ℕ → Turned → Moment
-with_turned m n x = record { state = x.state; thoughts = slice_set m.thoughts n x.thought }
+with_turned m n x = record { state = x.state; positions = slice_set m.positions n x.position }
 
 -- the turn moves the task in both moments, and leads to moments that are alike, or in none
 abbrev pub MoveAlike : Scene → Moment → Moment → ℕ → Turned → Turned → Type 0
@@ -110,59 +110,60 @@ MoveAlike scene a b n x y =
     × IsRenamed scene (with_turned a n x) (with_turned b n y)))
 
 module _ (laws : InodeLaws) (scene : Scene) (r : Naming) (a b : Moment)
-    (alike : IsAlikeBy scene r a b) (n : ℕ) (p : Program) (t : Thought)
-    (in_a : slice_get a.thoughts n ≡ Some t) where
+    (alike : IsAlikeBy scene r a b) (n : ℕ) (p : Program) (t : Position)
+    (in_a : slice_get a.positions n ≡ Some t) where
   abbrev used : ℕ → ℕ → Bool
-  used = is_used a.thoughts
+  used = is_used a.positions
 
   -- different files have different names, and the task's are used
   abbrev keeps : KeepsApart r used
   keeps = keeps_apart laws scene r a b alike
 
   abbrev covers : Covers used t
-  covers = covers_at a.thoughts n t in_a
+  covers = covers_at a.positions n t in_a
 
   -- the task in the second moment
-  abbrev t2 : Thought
-  t2 = thought_named r t
+  abbrev t2 : Position
+  t2 = position_named r t
 
   -- the mode of the script
   abbrev mode : Mode
   mode = mode_of scene
 
-  module _ (c : Call) (at : call_at p t.mind ≡ Some c) where
+  module _ (c : Call) (at : call_at p t.call_state ≡ Some c) where
     -- the progress of the call
     abbrev g : Progress
-    g = progress_of p.cred.admin c t.mind
+    g = progress_of p.cred.admin c t.call_state
 
     -- in the second moment its file has the other name
-    g_named : progress_of p.cred.admin c t2.mind ≡ progress_named r g
-    g_named = progress_of-named r used keeps p.cred.admin c t.mind (handles_used used t covers)
+    g_named : progress_of p.cred.admin c t2.call_state ≡ progress_named r g
+    g_named = progress_of-named r used keeps p.cred.admin c t.call_state
+        (handles_used used t covers)
 
     -- its file is used
     g_used : used g.inode g.file ≡ true
     g_used =
-        progress_of-used r used keeps p.cred.admin c t.mind (handles_used used t covers)
+        progress_of-used r used keeps p.cred.admin c t.call_state (handles_used used t covers)
         (progress_used used t covers)
 
     -- the step has the same number
-    who_same : who_at n p t2.mind ≡ who_at n p t.mind
+    who_same : who_at n p t2.call_state ≡ who_at n p t.call_state
     who_same =
-        ap (λ (o : Option Call). who_in n p o t2.mind) at
-        ∙ (λ j. record { task = n; call = t.mind.at; step = (g_named j).step })
-        ∙ sym (ap (λ (o : Option Call). who_in n p o t.mind) at)
+        ap (λ (o : Option Call). who_in n p o t2.call_state) at
+        ∙ (λ j. record { task = n; call = t.call_state.at; step = (g_named j).step })
+        ∙ sym (ap (λ (o : Option Call). who_in n p o t.call_state) at)
 
     -- the task after the step
-    abbrev after : ℕ → Told → Action → Thought
+    abbrev after : ℕ → Told → Action → Position
     after place o action =
-        thought_with t (moved_on c t.mind g place (next mode c g.due o action))
+        position_with t (moved_on c t.call_state g place (next mode c g.due o action))
 
     -- the task has this outcome after its step
-    heard : (place : ℕ) (o : Told) (action : Action) (rules : ℕ)
-        → hear mode p t (record { place = place; told = o; action = action; rules = rules })
+    resumed : (place : ℕ) (o : Told) (action : Action) (rules : ℕ)
+        → resume mode p t (record { place = place; told = o; action = action; rules = rules })
         ≡ after place o action
-    heard place o action rules =
-        ap (λ (x : Option Call). hear_in mode p x t (record {
+    resumed place o action rules =
+        ap (λ (x : Option Call). resume_in mode p x t (record {
           place = place;
           told = o;
           action = action;
@@ -170,52 +171,52 @@ module _ (laws : InodeLaws) (scene : Scene) (r : Naming) (a b : Moment)
         })) at
 
     -- in the second moment the task is the same after the step, with the names r2
-    heard_named : (r2 : Naming) (place place2 : ℕ) (o : Told) (action : Action) (rules : ℕ)
+    resumed_named : (r2 : Naming) (place place2 : ℕ) (o : Told) (action : Action) (rules : ℕ)
         → ((i file : ℕ) → used i file ≡ true → r i file ≡ r2 i file)
         → file_after g.due.ask place2 (r g.inode g.file)
         ≡ r2 g.inode (file_after g.due.ask place g.file)
-        → hear mode p t2 (record { place = place2; told = o; action = action; rules = rules })
-        ≡ thought_named r2 (hear mode p t (record {
+        → resume mode p t2 (record { place = place2; told = o; action = action; rules = rules })
+        ≡ position_named r2 (resume mode p t (record {
           place = place;
           told = o;
           action = action;
           rules = rules;
         }))
-    heard_named r2 place place2 o action rules agree file =
-        ap (λ (x : Option Call). hear_in mode p x t2 (record {
+    resumed_named r2 place place2 o action rules agree file =
+        ap (λ (x : Option Call). resume_in mode p x t2 (record {
           place = place2;
           told = o;
           action = action;
           rules = rules;
         })) at
-        ∙ ap (λ (x : Progress). thought_with t2 (moved_on c t2.mind x place2
+        ∙ ap (λ (x : Progress). position_with t2 (moved_on c t2.call_state x place2
         (next mode c x.due o action))) g_named
-        ∙ ap (thought_with t2) (moved_named r r2 c t.mind g place place2
+        ∙ ap (position_with t2) (moved_named r r2 c t.call_state g place place2
         (next mode c g.due o action)
-        (handles_agree r r2 used agree t.mind.handles (handles_used used t covers))
+        (handles_agree r r2 used agree t.call_state.handles (handles_used used t covers))
         (agree g.inode g.file g_used) file)
-        ∙ sym (ap (thought_named r2) (heard place o action rules))
+        ∙ sym (ap (position_named r2) (resumed place o action rules))
 
     -- the reply of a list is of no account to the task
-    heard_reply : (q : Placed) (place : ℕ) (o : Told) (action : Action) (rules : ℕ)
-        → hear mode p t2 (record {
+    resumed_reply : (q : Placed) (place : ℕ) (o : Told) (action : Action) (rules : ℕ)
+        → resume mode p t2 (record {
           place = place;
           told = told_with q o;
           action = action;
           rules = rules;
         })
-        ≡ hear mode p t2 (record { place = place; told = o; action = action; rules = rules })
-    heard_reply q place o action rules =
-        let g2 = progress_of p.cred.admin c t2.mind in
-        ap (λ (x : Option Call). hear_in mode p x t2 (record {
+        ≡ resume mode p t2 (record { place = place; told = o; action = action; rules = rules })
+    resumed_reply q place o action rules =
+        let g2 = progress_of p.cred.admin c t2.call_state in
+        ap (λ (x : Option Call). resume_in mode p x t2 (record {
           place = place;
           told = told_with q o;
           action = action;
           rules = rules;
         })) at
-        ∙ ap (λ (x : Next). thought_with t2 (moved_on c t2.mind g2 place x))
+        ∙ ap (λ (x : Next). position_with t2 (moved_on c t2.call_state g2 place x))
         (next_with q mode (course_of c) g2.due.ask g2.due.reply o action)
-        ∙ sym (ap (λ (x : Option Call). hear_in mode p x t2 (record {
+        ∙ sym (ap (λ (x : Option Call). resume_in mode p x t2 (record {
           place = place;
           told = o;
           action = action;
@@ -223,8 +224,8 @@ module _ (laws : InodeLaws) (scene : Scene) (r : Naming) (a b : Moment)
         })) at)
 
     -- its files were used, or the step has counted one
-    heard_used : (place : ℕ) (o : Told) (action : Action) (rules i file : ℕ)
-        → has_file i file (hear mode p t (record {
+    resumed_used : (place : ℕ) (o : Told) (action : Action) (rules i file : ℕ)
+        → has_file i file (resume mode p t (record {
           place = place;
           told = o;
           action = action;
@@ -232,10 +233,10 @@ module _ (laws : InodeLaws) (scene : Scene) (r : Naming) (a b : Moment)
         })) ≡ true
         → (used i file ≡ true)
         ⊎ IsNew g.due.ask (next mode c g.due o action) g place i file
-    heard_used place o action rules i file has =
-        moved_used used c t.mind g place (next mode c g.due o action)
+    resumed_used place o action rules i file has =
+        moved_used used c t.call_state g place (next mode c g.due o action)
         (handles_used used t covers) g_used i file
-        (sym (ap (has_file i file) (heard place o action rules)) ∙ has)
+        (sym (ap (has_file i file) (resumed place o action rules)) ∙ has)
 
     -- ---- an event of the inode
 
@@ -253,10 +254,10 @@ module _ (laws : InodeLaws) (scene : Scene) (r : Naming) (a b : Moment)
       r2 = naming_after r g.inode place place2
 
       -- the turn with this outcome
-      abbrev event_with : State → Thought → Who → Deed → ℕ → Option Told → Turned
+      abbrev event_with : State → Position → Who → Deed → ℕ → Option Told → Turned
       event_with x u who deed at o = record {
         state = state_on x g.inode (inode_of scene s) who deed o;
-        thought = hear_told mode p u at action rules o;
+        position = resume_told mode p u at action rules o;
         turn = turn_of o;
       }
 
@@ -267,14 +268,14 @@ module _ (laws : InodeLaws) (scene : Scene) (r : Naming) (a b : Moment)
       -- an event with this outcome, or none if the step is blocked
       told_alike : (o : Option Told)
           → outcome (inode_of scene s) a.state.list d (newest_first (journal_at a.state g.inode))
-          ≡ o → MoveAlike scene a b n (event_with a.state t (who_at n p t.mind) d place o)
-          (event_with b.state t2 (who_at n p t.mind) (deed_named (r g.inode) d) place2
+          ≡ o → MoveAlike scene a b n (event_with a.state t (who_at n p t.call_state) d place o)
+          (event_with b.state t2 (who_at n p t.call_state) (deed_named (r g.inode) d) place2
           (option_map (told_with q) o))
       told_alike None out = inl (refl, refl)
       told_alike (Some o) out =
-          let both = event_alike laws scene r a b alike g.inode s there n (who_at n p t.mind) d o
-          (hear mode p t (record { place = place; told = o; action = action; rules = rules }))
-          (hear mode p t2 (record {
+          let both = event_alike laws scene r a b alike g.inode s there n (who_at n p t.call_state)
+          d o (resume mode p t (record { place = place; told = o; action = action; rules = rules }))
+          (resume mode p t2 (record {
             place = place2;
             told = told_with q o;
             action = action;
@@ -283,12 +284,12 @@ module _ (laws : InodeLaws) (scene : Scene) (r : Naming) (a b : Moment)
           is out named files in
           inr (refl, (refl, (r2, both)))
         where
-          named : hear mode p t2 (record {
+          named : resume mode p t2 (record {
             place = place2;
             told = told_with q o;
             action = action;
             rules = rules;
-          }) ≡ thought_named r2 (hear mode p t (record {
+          }) ≡ position_named r2 (resume mode p t (record {
             place = place;
             told = o;
             action = action;
@@ -296,12 +297,12 @@ module _ (laws : InodeLaws) (scene : Scene) (r : Naming) (a b : Moment)
           }))
           named =
               let agree = keeps_names laws scene r a b alike g.inode s there in
-              heard_reply q place2 o action rules
-              ∙ heard_named r2 place place2 o action rules agree
+              resumed_reply q place2 o action rules
+              ∙ resumed_named r2 place place2 o action rules agree
               (file_named (r2 g.inode) g.due.ask place place2 g.file (r g.inode g.file)
               (naming_new r g.inode place place2) (agree g.inode g.file g_used))
 
-          files : (k file : ℕ) → has_file k file (hear mode p t (record {
+          files : (k file : ℕ) → has_file k file (resume mode p t (record {
             place = place;
             told = o;
             action = action;
@@ -313,24 +314,24 @@ module _ (laws : InodeLaws) (scene : Scene) (r : Naming) (a b : Moment)
               ⊎_elim (λ old. inl old)
               (λ new. inr (new_by mode (course_of c) g.due.ask g.due.reply o action g place k file d
               suits new))
-              (heard_used place o action rules k file has)
+              (resumed_used place o action rules k file has)
 
       -- the step, with the outcome that it has in either moment
       pub inode_step : MoveAlike scene a b n
-          (event_with a.state t (who_at n p t.mind) d place
+          (event_with a.state t (who_at n p t.call_state) d place
           (outcome (inode_of scene s) a.state.list d (newest_first (journal_at a.state g.inode))))
-          (event_with b.state t2 (who_at n p t2.mind) (deed_named (r g.inode) d) place2
+          (event_with b.state t2 (who_at n p t2.call_state) (deed_named (r g.inode) d) place2
           (outcome (inode_of scene s) b.state.list (deed_named (r g.inode) d)
           (newest_first (journal_at b.state g.inode))))
       inode_step =
-          let x = event_with a.state t (who_at n p t.mind) d place
+          let x = event_with a.state t (who_at n p t.call_state) d place
           (outcome (inode_of scene s) a.state.list d (newest_first (journal_at a.state g.inode))) in
           let same = outcome_alike laws scene r a b alike g.inode s there d is in
           subst (λ (who : Who). MoveAlike scene a b n x (event_with b.state t2 who
           (deed_named (r g.inode) d) place2 (outcome (inode_of scene s) b.state.list
           (deed_named (r g.inode) d) (newest_first (journal_at b.state g.inode))))) (sym who_same)
           (subst (λ (o : Option Told). MoveAlike scene a b n x (event_with b.state t2
-          (who_at n p t.mind) (deed_named (r g.inode) d) place2 o)) (sym same)
+          (who_at n p t.call_state) (deed_named (r g.inode) d) place2 o)) (sym same)
           (told_alike (outcome (inode_of scene s) a.state.list d
           (newest_first (journal_at a.state g.inode))) refl))
 
@@ -387,7 +388,7 @@ module _ (laws : InodeLaws) (scene : Scene) (r : Naming) (a b : Moment)
           → IsAlikeBy scene r
           (record {
             state = record a.state { signals = ga; added = xa };
-            thoughts = slice_set a.thoughts n (hear mode p t (record {
+            positions = slice_set a.positions n (resume mode p t (record {
               place = place;
               told = o;
               action = action;
@@ -396,7 +397,7 @@ module _ (laws : InodeLaws) (scene : Scene) (r : Naming) (a b : Moment)
           })
           (record {
             state = record b.state { signals = gb; added = xb };
-            thoughts = slice_set b.thoughts n (hear mode p t2 (record {
+            positions = slice_set b.positions n (resume mode p t2 (record {
               place = place2;
               told = o;
               action = action;
@@ -405,13 +406,13 @@ module _ (laws : InodeLaws) (scene : Scene) (r : Naming) (a b : Moment)
           })
       rest_step place place2 o action rules ga gb xa xb added counts =
           rest_alike laws scene r a b alike n ga gb xa xb
-          (hear mode p t (record { place = place; told = o; action = action; rules = rules }))
-          (hear mode p t2 (record { place = place2; told = o; action = action; rules = rules }))
+          (resume mode p t (record { place = place; told = o; action = action; rules = rules }))
+          (resume mode p t2 (record { place = place2; told = o; action = action; rules = rules }))
           (λ i file has. ⊎_elim (λ old. old)
           (λ new. absurd (subst (λ (k : Ask). IsNew k (next mode c g.due o action) g place i file)
           plain new))
-          (heard_used place o action rules i file has))
-          (heard_named r place place2 o action rules (λ i file is. refl)
+          (resumed_used place o action rules i file has))
+          (resumed_named r place place2 o action rules (λ i file is. refl)
           (subst (λ (k : Ask). file_after k place2 (r g.inode g.file)
           ≡ r g.inode (file_after k place g.file)) (sym plain) refl))
           added counts
@@ -439,7 +440,7 @@ module _ (laws : InodeLaws) (scene : Scene) (r : Naming) (a b : Moment)
               (step_signal scene n p b.state t2 d o)
           by None = inl (refl, refl)
           by (Some o) =
-              let e = event (who_at n p t.mind) d o in
+              let e = event (who_at n p t.call_state) d o in
               let counts = λ (sem : ℕ). count_more sem a.state.signals b.state.signals e
               (alike.semaphores sem) in
               let both = rest_step (length a.state.signals) (length b.state.signals) o no_action 0
@@ -448,7 +449,7 @@ module _ (laws : InodeLaws) (scene : Scene) (r : Naming) (a b : Moment)
               subst (λ (who : Who). MoveAlike scene a b n
               (step_signal scene n p a.state t d (Some o)) (record {
                 state = record b.state { signals = b.state.signals ++ made who d (Some o) };
-                thought = hear_told mode p t2 (length b.state.signals) no_action 0 (Some o);
+                position = resume_told mode p t2 (length b.state.signals) no_action 0 (Some o);
                 turn = turns.Moved;
               })) (sym who_same)
               (inr (refl, (refl, (r, both))))
@@ -458,13 +459,13 @@ module _ (laws : InodeLaws) (scene : Scene) (r : Naming) (a b : Moment)
           → MoveAlike scene a b n (step_due scene n p a.state t (Some (Appends rule)))
           (step_due scene n p b.state t2 (Some (Appends rule)))
       appends_alike rule =
-          let added : b.state.added ++ record { who = who_at n p t2.mind; rule = rule } ∷ []
-          ≡ a.state.added ++ record { who = who_at n p t.mind; rule = rule } ∷ []
+          let added : b.state.added ++ record { who = who_at n p t2.call_state; rule = rule } ∷ []
+          ≡ a.state.added ++ record { who = who_at n p t.call_state; rule = rule } ∷ []
           = λ j. alike.added j ++ record { who = who_same j; rule = rule } ∷ [] in
           let both = rest_step (length a.state.added) (length b.state.added) told.Done no_action 0
           a.state.signals b.state.signals
-          (a.state.added ++ record { who = who_at n p t.mind; rule = rule } ∷ [])
-          (b.state.added ++ record { who = who_at n p t2.mind; rule = rule } ∷ []) added
+          (a.state.added ++ record { who = who_at n p t.call_state; rule = rule } ∷ [])
+          (b.state.added ++ record { who = who_at n p t2.call_state; rule = rule } ∷ []) added
           alike.semaphores in
           inr (refl, (refl, (r, both)))
 
@@ -524,26 +525,26 @@ module _ (laws : InodeLaws) (scene : Scene) (r : Naming) (a b : Moment)
         on_inode ask.CloseFinish e (deed.CloseFinish g.file) tt g_used
 
   -- a task without a call doesn't move
-  called_alike : (o : Option Call) → call_at p t.mind ≡ o
-      → MoveAlike scene a b n (step_due scene n p a.state t (step_in p o t.mind))
-      (step_due scene n p b.state t2 (step_in p o t2.mind))
+  called_alike : (o : Option Call) → call_at p t.call_state ≡ o
+      → MoveAlike scene a b n (step_due scene n p a.state t (step_in p o t.call_state))
+      (step_due scene n p b.state t2 (step_in p o t2.call_state))
   called_alike None at = inl (refl, refl)
   called_alike (Some c) at =
-      let due = progress_of p.cred.admin c t.mind in
+      let due = progress_of p.cred.admin c t.call_state in
       let named = g_named c at in
-      let same : Some (step_by p.cred.admin c (progress_of p.cred.admin c t2.mind)
-      (progress_of p.cred.admin c t2.mind).due.ask)
+      let same : Some (step_by p.cred.admin c (progress_of p.cred.admin c t2.call_state)
+      (progress_of p.cred.admin c t2.call_state).due.ask)
       ≡ Some (step_by p.cred.admin c (progress_named r due) due.due.ask)
       = λ j. Some (step_by p.cred.admin c (named j) (named j).due.ask) in
       let step = same ∙ ap Some (step_by-named r p.cred.admin c due due.due.ask) in
       subst (λ (x : Option Step). MoveAlike scene a b n
-      (step_due scene n p a.state t (step_in p (Some c) t.mind)) (step_due scene n p b.state t2 x))
-      (sym step) (asked_alike c at due.due.ask refl)
+      (step_due scene n p a.state t (step_in p (Some c) t.call_state))
+      (step_due scene n p b.state t2 x)) (sym step) (asked_alike c at due.due.ask refl)
 
   -- a step of the task
   pub step_alike : MoveAlike scene a b n (step_task scene n p a.state t)
       (step_task scene n p b.state t2)
-  step_alike = called_alike (call_at p t.mind) refl
+  step_alike = called_alike (call_at p t.call_state) refl
 
 -- ---- a turn
 
@@ -569,22 +570,22 @@ both_moved scene a b n x y (inr moving) =
 pub turn_alike : InodeLaws → (scene : Scene) (r : Naming) (a b : Moment) → IsAlikeBy scene r a b
     → (n : ℕ) → BothOrNone (IsRenamed scene) (moved scene a n) (moved scene b n)
 turn_alike laws scene r a b alike n =
-    subst (λ (o : Option Thought). BothOrNone (IsRenamed scene) (moved scene a n)
+    subst (λ (o : Option Position). BothOrNone (IsRenamed scene) (moved scene a n)
     (picked b (slice_get scene.programs n) o))
-    (sym (ap (λ (ts : List Thought). slice_get ts n) alike.thoughts
-    ∙ slice_get-map (thought_named r) a.thoughts n))
-    (by (slice_get scene.programs n) (slice_get a.thoughts n) refl)
+    (sym (ap (λ (ts : List Position). slice_get ts n) alike.positions
+    ∙ slice_get-map (position_named r) a.positions n))
+    (by (slice_get scene.programs n) (slice_get a.positions n) refl)
   where
-    picked : Moment → Option Program → Option Thought → Option Moment
+    picked : Moment → Option Program → Option Position → Option Moment
     picked m q o = if moves_at scene m n q o then Some (turned scene m n q o) else None
 
-    by : (q : Option Program) (o : Option Thought) → slice_get a.thoughts n ≡ o
-        → BothOrNone (IsRenamed scene) (picked a q o) (picked b q (option_map (thought_named r) o))
+    by : (q : Option Program) (o : Option Position) → slice_get a.positions n ≡ o
+        → BothOrNone (IsRenamed scene) (picked a q o) (picked b q (option_map (position_named r) o))
     by None o at = tt
     by (Some p) None at = tt
     by (Some p) (Some t) at =
         both_moved scene a b n (step_task scene n p a.state t)
-        (step_task scene n p b.state (thought_named r t))
+        (step_task scene n p b.state (position_named r t))
         (step_alike laws scene r a b alike n p t at)
 
 -- ---- the same moment

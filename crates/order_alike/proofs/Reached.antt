@@ -8,7 +8,7 @@ use Rattle.std.proofs.lemmas.Option.{get_or_from_slice_get, none-some, same_Some
 use Rattle.order_outcomes.specs.Orders.{moved}
 use Rattle.order_outcomes.specs.counts.Layers.{BothOrNone}
 use Rattle.order_outcomes.specs.counts.Orders.{led}
-use Rattle.order_outcomes.specs.reports.model.History.{Thought, start}
+use Rattle.order_outcomes.specs.reports.model.History.{Position, start}
 use Rattle.order_outcomes.specs.reports.model.Scene.{Program, Scene, ScriptFile, inode_of}
 use Rattle.order_outcomes.specs.reports.model.Turns.{Moment, newborn, start_of}
 use Rattle.order_outcomes.specs.reports.model.events.Inode.{Inode}
@@ -18,7 +18,7 @@ use Rattle.order_outcomes.specs.reports.model.events.templates.declared.entry.En
 use Rattle.order_outcomes.proofs.about_counts.Turns.{led-none}
 use Rattle.order_alike.specs.Alike.{AreSound, IsAlikeBy, IsInodeAlike, IsRenamed, IsSound}
 use Rattle.order_alike.specs.Laws.{ReachedAreSound}
-use Rattle.order_alike.specs.Names.{Naming, has_file, is_used, thought_named}
+use Rattle.order_alike.specs.Names.{Naming, has_file, is_used, position_named}
 use Rattle.order_alike.proofs.InodeLaws.{InodeLaws}
 use Rattle.order_alike.proofs.InodeLists.{lists_itself}
 use Rattle.order_alike.proofs.MomentTasks.{turn_alike}
@@ -30,14 +30,14 @@ abbrev pub own : Naming
 own i file = file
 
 -- tasks that haven't begun
-abbrev pub starts : List Program → List Thought
+abbrev pub starts : List Program → List Position
 starts programs = map (λ (p : Program). start) programs
 
 -- have no files
 starts_named : (programs : List Program)
-    → starts programs ≡ map (thought_named own) (starts programs)
+    → starts programs ≡ map (position_named own) (starts programs)
 starts_named [] = refl
-starts_named (p ∷ ps) = ap (λ (ts : List Thought). start ∷ ts) (starts_named ps)
+starts_named (p ∷ ps) = ap (λ (ts : List Position). start ∷ ts) (starts_named ps)
 
 starts_unused : (i file : ℕ) (programs : List Program)
     → list_any (has_file i file) (starts programs) ≡ false
@@ -109,7 +109,7 @@ start_alike : (scene : Scene) → IsAlikeBy scene own (start_of scene) (start_of
 start_alike scene = record {
   none = λ i. refl;
   elsewhere = λ i out file. refl;
-  thoughts = starts_named scene.programs;
+  positions = starts_named scene.programs;
   inodes = λ i s at.
       subst (λ (j : List Event). IsInodeAlike (inode_of scene s) (scene.boot ∷ [])
       (scene.boot ∷ []) (is_used (starts scene.programs) i) (λ file. file) j j)

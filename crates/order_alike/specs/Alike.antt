@@ -25,7 +25,7 @@ use Rattle.order_outcomes.specs.reports.model.events.templates.declared.entry.En
 use Rattle.order_outcomes.specs.Calls.{is_listed, listed_in, place_told, verdict_in}
 use Rattle.order_outcomes.specs.Outcome.{lines_of}
 use Rattle.order_outcomes.specs.declared.lines.Kind.{Kind}
-use Rattle.order_alike.specs.Names.{Naming, is_used, thought_named}
+use Rattle.order_alike.specs.Names.{Naming, is_used, position_named}
 
 -- ---- the measurement list
 
@@ -164,9 +164,9 @@ pub record IsAlikeBy (scene : Scene) (r : Naming) (a b : Moment) : Type 0 where
   -- a file that isn't counted yet has no other name, nor has a file that isn't in the scene
   pub none : (i : ℕ) → r i 0 ≡ 0
   pub elsewhere : (i : ℕ) → slice_get scene.script_files i ≡ None → (file : ℕ) → r i file ≡ file
-  pub thoughts : b.thoughts ≡ map (thought_named r) a.thoughts
+  pub positions : b.positions ≡ map (position_named r) a.positions
   pub inodes : (i : ℕ) (s : ScriptFile) → slice_get scene.script_files i ≡ Some s
-      → IsInodeAlike (inode_of scene s) a.state.list b.state.list (is_used a.thoughts i) (r i)
+      → IsInodeAlike (inode_of scene s) a.state.list b.state.list (is_used a.positions i) (r i)
       (journal_at a.state i) (journal_at b.state i)
   pub lists : AreListsAlike a.state.list b.state.list
   pub added : b.state.added ≡ a.state.added
@@ -188,4 +188,4 @@ pub record AreSound (scene : Scene) (a : Moment) : Type 0 where
   pub journals : (i : ℕ) (s : ScriptFile) → slice_get scene.script_files i ≡ Some s
       → IsSound (inode_of scene s) a.state.list (newest_first (journal_at a.state i))
   pub files : (i : ℕ) (s : ScriptFile) → slice_get scene.script_files i ≡ Some s → (file : ℕ)
-      → is_used a.thoughts i file ≡ true → file < length (journal_at a.state i)
+      → is_used a.positions i file ≡ true → file < length (journal_at a.state i)

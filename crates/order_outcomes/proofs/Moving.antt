@@ -9,10 +9,10 @@ use Rattle.order_counts.proofs.Turns.{led-none}
 use Rattle.order_counts.specs.Orders.{led}
 use Rattle.report_text.specs.model.Ended.{is_done}
 use Rattle.report_text.specs.model.EndedValue.{EndedTaskValue, inodes_ended, tasks_ended}
-use Rattle.report_text.specs.model.History.{Answer, Thought, call_at, hear, hear_in, plain_answer, replied, start, step_at, step_in, who_at}
+use Rattle.report_text.specs.model.History.{Answer, Position, call_at, plain_answer, replied, resume, resume_in, start, step_at, step_in, who_at}
 use Rattle.report_text.specs.model.Rounds.{is_moved, moves, moves_at}
 use Rattle.report_text.specs.model.Scene.{Program, Scene, ScriptFile, decided, inode_of, mode_of, rules_with}
-use Rattle.report_text.specs.model.Turns.{Moment, State, Turned, hear_told, journal_at, newborn, start_of, state_on, step_check, step_does, step_due, step_signal, step_task, turn, turn_of, turned, turns_of}
+use Rattle.report_text.specs.model.Turns.{Moment, State, Turned, journal_at, newborn, resume_told, start_of, state_on, step_check, step_does, step_due, step_signal, step_task, turn, turn_of, turned, turns_of}
 use Rattle.report_text.specs.model.events.Asked.{outcome}
 use Rattle.report_text.specs.model.events.Checks.{no_action}
 use Rattle.report_text.specs.model.events.EndedInode.{EndedInodeValue, ended_inode}
@@ -29,8 +29,8 @@ use Rattle.report_text.specs.model.events.meta.declared.appraisal.Mode.{Mode}
 use Rattle.report_text.specs.model.policy.RuleValue.{RuleValue}
 use Rattle.report_text.specs.model.policy.declared.access.Action.{Action}
 use Rattle.report_text.specs.model.policy.declared.rule.Func.{Func}
-use Rattle.report_text.specs.model.steps.Mind.{Progress, Step, after_of, deed_of, moved as moved_on, plain_step, progress_of, step_by}
-use Rattle.report_text.specs.model.steps.Mind.{Nothing, Does, Checks, Signals, Appends}
+use Rattle.report_text.specs.model.steps.CallState.{Progress, Step, after_of, deed_of, moved as moved_on, plain_step, progress_of, step_by}
+use Rattle.report_text.specs.model.steps.CallState.{Nothing, Does, Checks, Signals, Appends}
 use Rattle.report_text.specs.model.steps.Steps.{course_of, next_by}
 use Rattle.report_text.specs.model.steps.declared.ask.Ask.{Ask}
 use Rattle.report_text.specs.model.steps.declared.ask.Ask.TheVariants as ask
@@ -48,44 +48,44 @@ longer : (replies : List Reply) (o : Option Reply) → length replies ≤ length
 longer replies None = omega arith
 longer replies (Some r) = let more = length-append replies (r ∷ []) in omega (arith, more)
 
-heard : (mode : Mode) (p : Program) (o : Option Call) (t : Thought) (a : Answer)
-    → length t.replies ≤ length (hear_in mode p o t a).replies
-heard mode p None t a = omega arith
-heard mode p (Some c) t a =
-    longer t.replies (after_of mode p.cred.admin c t.mind a.place a.told a.action).1
+resumed : (mode : Mode) (p : Program) (o : Option Call) (t : Position) (a : Answer)
+    → length t.replies ≤ length (resume_in mode p o t a).replies
+resumed mode p None t a = omega arith
+resumed mode p (Some c) t a =
+    longer t.replies (after_of mode p.cred.admin c t.call_state a.place a.told a.action).1
 
 -- a call's step without an event on an inode is its last one, so it has a reply
-plain_heard : (mode : Mode) (p : Program) (c : Call) (t : Thought) (a : Answer)
-    → (progress_of p.cred.admin c t.mind).due.ask ≡ ask.Plain
-    → length (hear_in mode p (Some c) t a).replies ≡ length t.replies + 1
-plain_heard mode p c t a is =
-    let g = progress_of p.cred.admin c t.mind in
-    ap (λ (k : Ask). length (replied t.replies (moved_on c t.mind g a.place
+plain_resumed : (mode : Mode) (p : Program) (c : Call) (t : Position) (a : Answer)
+    → (progress_of p.cred.admin c t.call_state).due.ask ≡ ask.Plain
+    → length (resume_in mode p (Some c) t a).replies ≡ length t.replies + 1
+plain_resumed mode p c t a is =
+    let g = progress_of p.cred.admin c t.call_state in
+    ap (λ (k : Ask). length (replied t.replies (moved_on c t.call_state g a.place
     (next_by mode (course_of c) k g.due.reply a.told a.action)).1)) is
     ∙ length-append t.replies (g.due.reply ∷ [])
 
 -- ---- one step
 
 -- there are more events and replies than before
-abbrev Grows : State → Thought → Turned → Type 0
+abbrev Grows : State → Position → Turned → Type 0
 Grows s t r = sum_by length s.journals + length t.replies
-    < sum_by length r.state.journals + length r.thought.replies
+    < sum_by length r.state.journals + length r.position.replies
 
 -- an event on an inode
-event_grows : (scene : Scene) (n : ℕ) (p : Program) (s : State) (t : Thought) (i : ℕ)
+event_grows : (scene : Scene) (n : ℕ) (p : Program) (s : State) (t : Position) (i : ℕ)
     (inode : Inode) (d : Deed) (action : Action) (rules : ℕ) → i < length s.journals
     → (o : Option Told) → is_moved (turn_of o) ≡ true
     → Grows s t (record {
-      state = state_on s i inode (who_at n p t.mind) d o;
-      thought = hear_told (mode_of scene) p t (length (journal_at s i)) action rules o;
+      state = state_on s i inode (who_at n p t.call_state) d o;
+      position = resume_told (mode_of scene) p t (length (journal_at s i)) action rules o;
       turn = turn_of o;
     })
 event_grows scene n p s t i inode d action rules below None is = absurd (true≢false (sym is))
 event_grows scene n p s t i inode d action rules below (Some o) is =
-    let e : Event = record { who = who_at n p t.mind; deed = d; told = o } in
+    let e : Event = record { who = who_at n p t.call_state; deed = d; told = o } in
     let set = sum_by-set length s.journals i (journal_at s i ++ e ∷ []) [] below in
     let more = length-append (journal_at s i) (e ∷ []) in
-    let keeps = heard (mode_of scene) p (call_at p t.mind) t (record {
+    let keeps = resumed (mode_of scene) p (call_at p t.call_state) t (record {
       place = length (journal_at s i);
       told = o;
       action = action;
@@ -93,7 +93,7 @@ event_grows scene n p s t i inode d action rules below (Some o) is =
     }) in
     omega (arith, set, more, keeps)
 
-module _ (scene : Scene) (n : ℕ) (p : Program) (s : State) (t : Thought)
+module _ (scene : Scene) (n : ℕ) (p : Program) (s : State) (t : Position)
     (fits : length s.journals ≡ length scene.script_files) where
   within : (i : ℕ) (script_file : ScriptFile) → slice_get scene.script_files i ≡ Some script_file
       → i < length s.journals
@@ -124,16 +124,16 @@ module _ (scene : Scene) (n : ℕ) (p : Program) (s : State) (t : Thought)
       (within i script_file at)
       (outcome (inode_of scene script_file) s.list d (newest_first (journal_at s i))) is
 
-  module _ (c : Call) (at : call_at p t.mind ≡ Some c) where
+  module _ (c : Call) (at : call_at p t.call_state ≡ Some c) where
     abbrev due : Progress
-    due = progress_of p.cred.admin c t.mind
+    due = progress_of p.cred.admin c t.call_state
 
-    -- the task hears the outcome of its call's last step
+    -- the task takes the outcome of its call's last step
     replies_grow : (a : Answer) → due.due.ask ≡ ask.Plain
-        → length (hear (mode_of scene) p t a).replies ≡ length t.replies + 1
+        → length (resume (mode_of scene) p t a).replies ≡ length t.replies + 1
     replies_grow a plain =
-        ap (λ (o : Option Call). length (hear_in (mode_of scene) p o t a).replies) at
-        ∙ plain_heard (mode_of scene) p c t a plain
+        ap (λ (o : Option Call). length (resume_in (mode_of scene) p o t a).replies) at
+        ∙ plain_resumed (mode_of scene) p c t a plain
 
     signal_grows : (d : Deed) (o : Option Told) → due.due.ask ≡ ask.Plain
         → is_moved (step_signal scene n p s t d o).turn ≡ true
@@ -201,30 +201,30 @@ module _ (scene : Scene) (n : ℕ) (p : Program) (s : State) (t : Thought)
     asked_grows ask.CloseChunk e is = on_inode due.inode (deed.CloseChunk due.file) is
     asked_grows ask.CloseFinish e is = on_inode due.inode (deed.CloseFinish due.file) is
 
-  called_grows : (o : Option Call) → call_at p t.mind ≡ o
-      → is_moved (step_due scene n p s t (step_in p o t.mind)).turn ≡ true
-      → Grows s t (step_due scene n p s t (step_in p o t.mind))
+  called_grows : (o : Option Call) → call_at p t.call_state ≡ o
+      → is_moved (step_due scene n p s t (step_in p o t.call_state)).turn ≡ true
+      → Grows s t (step_due scene n p s t (step_in p o t.call_state))
   called_grows None at is = absurd (true≢false (sym is))
   called_grows (Some c) at is =
-      asked_grows c at (progress_of p.cred.admin c t.mind).due.ask refl is
+      asked_grows c at (progress_of p.cred.admin c t.call_state).due.ask refl is
 
   -- a step that moves
   step_grows : is_moved (step_task scene n p s t).turn ≡ true → Grows s t (step_task scene n p s t)
-  step_grows is = called_grows (call_at p t.mind) refl is
+  step_grows is = called_grows (call_at p t.call_state) refl is
 
 -- ---- a moment
 
 -- one journal for each inode, and one position for each task
 pub record Fits (scene : Scene) (m : Moment) : Type 0 where
   pub journals : length m.state.journals ≡ length scene.script_files
-  pub thoughts : length m.thoughts ≡ length scene.programs
+  pub positions : length m.positions ≡ length scene.programs
 
-abbrev replies_of : Thought → ℕ
+abbrev replies_of : Position → ℕ
 replies_of t = length t.replies
 
 -- the number of events and replies at the moment
 abbrev pub size : Moment → ℕ
-size m = sum_by length m.state.journals + sum_by replies_of m.thoughts
+size m = sum_by length m.state.journals + sum_by replies_of m.positions
 
 -- the events of the inodes are those of their journals
 inode_sizes : (scene : Scene) (ss : List ScriptFile) (js : List (List Event))
@@ -240,7 +240,7 @@ inode_sizes scene (s ∷ ss) (j ∷ js) e =
     (inodes_ended scene ss js)
     ∙ ap (λ k. length j + k) rest ∙ sym (sum_by-cons length j js)
 
-task_sizes : (ps : List Program) (ts : List Thought) → length ts ≡ length ps
+task_sizes : (ps : List Program) (ts : List Position) → length ts ≡ length ps
     → sum_by (λ (t : EndedTaskValue). length t.replies) (tasks_ended ps ts)
     ≡ sum_by replies_of ts
 task_sizes [] [] e = refl
@@ -256,31 +256,31 @@ pub made_is : (scene : Scene) (m : Moment) → Fits scene m
     → (made_of (left_at scene m)).events + (made_of (left_at scene m)).replies ≡ size m
 made_is scene m fits = λ i.
     inode_sizes scene scene.script_files m.state.journals fits.journals i
-    + task_sizes scene.programs m.thoughts fits.thoughts i
+    + task_sizes scene.programs m.positions fits.positions i
 
 -- a turn that moves its task
 turned_grows : (scene : Scene) (m : Moment) (n : ℕ) → Fits scene m
-    → (q : Option Program) (o : Option Thought) → slice_get m.thoughts n ≡ o
+    → (q : Option Program) (o : Option Position) → slice_get m.positions n ≡ o
     → moves_at scene m n q o ≡ true → size m < size (turned scene m n q o)
 turned_grows scene m n fits None o at is = absurd (true≢false (sym is))
 turned_grows scene m n fits (Some p) None at is = absurd (true≢false (sym is))
 turned_grows scene m n fits (Some p) (Some t) at is =
-    let below = slice_get_within m.thoughts n t at in
-    let after = (step_task scene n p m.state t).thought in
-    let set = sum_by-set replies_of m.thoughts n after t below in
-    let old : length (slice_index_or m.thoughts n t).replies ≡ length t.replies
-    = ap replies_of (get_or_from_slice_get m.thoughts n t t at) in
+    let below = slice_get_within m.positions n t at in
+    let after = (step_task scene n p m.state t).position in
+    let set = sum_by-set replies_of m.positions n after t below in
+    let old : length (slice_index_or m.positions n t).replies ≡ length t.replies
+    = ap replies_of (get_or_from_slice_get m.positions n t t at) in
     let grows = step_grows scene n p m.state t fits.journals is in
     omega (arith, set, old, grows)
 
 pub turn_grows : (scene : Scene) (m : Moment) (n : ℕ) → Fits scene m → moves scene m n ≡ true
     → size m < size (turn scene m n)
 turn_grows scene m n fits is =
-    turned_grows scene m n fits (slice_get scene.programs n) (slice_get m.thoughts n) refl is
+    turned_grows scene m n fits (slice_get scene.programs n) (slice_get m.positions n) refl is
 
 -- ---- the journals and the positions of a moment that turns lead to
 
-step_fits : (scene : Scene) (n : ℕ) (p : Program) (s : State) (t : Thought) (k : Option Step)
+step_fits : (scene : Scene) (n : ℕ) (p : Program) (s : State) (t : Position) (k : Option Step)
     → length (step_due scene n p s t k).state.journals ≡ length s.journals
 step_fits scene n p s t None = refl
 step_fits scene n p s t (Some Nothing) = refl
@@ -300,22 +300,22 @@ step_fits scene n p s t (Some (Signals d)) = refl
 step_fits scene n p s t (Some (Appends rule)) = refl
 
 turned_fits : (scene : Scene) (m : Moment) (n : ℕ) → Fits scene m → (p : Option Program)
-    (t : Option Thought) → Fits scene (turned scene m n p t)
+    (t : Option Position) → Fits scene (turned scene m n p t)
 turned_fits scene m n fits None t = fits
 turned_fits scene m n fits (Some p) None = fits
 turned_fits scene m n fits (Some p) (Some t) = record {
-  journals = step_fits scene n p m.state t (step_at p t.mind) ∙ fits.journals;
-  thoughts = length-set m.thoughts n _ ∙ fits.thoughts;
+  journals = step_fits scene n p m.state t (step_at p t.call_state) ∙ fits.journals;
+  positions = length-set m.positions n _ ∙ fits.positions;
 }
 
 pub turn_fits : (scene : Scene) (m : Moment) (n : ℕ) → Fits scene m → Fits scene (turn scene m n)
 turn_fits scene m n fits =
-    turned_fits scene m n fits (slice_get scene.programs n) (slice_get m.thoughts n)
+    turned_fits scene m n fits (slice_get scene.programs n) (slice_get m.positions n)
 
 pub start_fits : (scene : Scene) → Fits scene (start_of scene)
 start_fits scene = record {
   journals = length-map scene.script_files newborn;
-  thoughts = length-map scene.programs (λ (p : Program). start);
+  positions = length-map scene.programs (λ (p : Program). start);
 }
 
 -- turns that each move their task lead where they lead as a schedule

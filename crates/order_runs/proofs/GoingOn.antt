@@ -10,7 +10,7 @@ use Rattle.order_outcomes.proofs.about_counts.Spread.{led-append}
 use Rattle.order_outcomes.proofs.about_counts.Turns.{led-none}
 use Rattle.order_outcomes.specs.Orders.{moved}
 use Rattle.order_outcomes.specs.counts.Orders.{is_among, is_order, led, orders, rests}
-use Rattle.order_outcomes.specs.reports.model.History.{Thought}
+use Rattle.order_outcomes.specs.reports.model.History.{Position}
 use Rattle.order_outcomes.specs.reports.model.Rounds.{all_tasks, moves, moves_at, numbers}
 use Rattle.order_outcomes.specs.reports.model.Scene.{Program, Scene}
 use Rattle.order_outcomes.specs.reports.model.Turns.{Moment, start_of, turn}
@@ -91,7 +91,7 @@ module _ (scene : Scene) where
       → is_among n (all_tasks scene) ≡ true
   moved_named m x n at = by (moves scene m n) refl at
     where
-      within : (p : Option Program) (t : Option Thought) → slice_get scene.programs n ≡ p
+      within : (p : Option Program) (t : Option Position) → slice_get scene.programs n ≡ p
           → moves_at scene m n p t ≡ true → is_among n (all_tasks scene) ≡ true
       within None t here is = absurd (true≢false (sym is))
       within (Some p) t here is =
@@ -100,7 +100,7 @@ module _ (scene : Scene) where
       by : (b : Bool) → moves scene m n ≡ b
           → (if b then Some (turn scene m n) else None) ≡ Some x
           → is_among n (all_tasks scene) ≡ true
-      by true is leads = within (slice_get scene.programs n) (slice_get m.thoughts n) refl is
+      by true is leads = within (slice_get scene.programs n) (slice_get m.positions n) refl is
       by false is leads = absurd (none-some x leads)
 
 pub go_on : OrdersGoOn

@@ -11,7 +11,7 @@ use Rattle.order_outcomes.proofs.about_counts.Turns.{led-none}
 use Rattle.order_outcomes.specs.Made.{made_of}
 use Rattle.order_outcomes.specs.Orders.{left_at, moment_after, moved}
 use Rattle.order_outcomes.specs.counts.Orders.{led}
-use Rattle.order_outcomes.specs.reports.model.History.{Thought}
+use Rattle.order_outcomes.specs.reports.model.History.{Position}
 use Rattle.order_outcomes.specs.reports.model.Rounds.{moves, moves_at}
 use Rattle.order_outcomes.specs.reports.model.Scene.{Program, Scene}
 use Rattle.order_outcomes.specs.reports.model.Turns.{Moment, start_of, turn, turns_of}
@@ -23,7 +23,7 @@ use Rattle.order_runs.specs.declared.points.Point.{Point}
 
 -- ---- turns that move are turns of the scene's tasks
 
-moves_within : (scene : Scene) (m : Moment) (n : ℕ) (p : Option Program) (t : Option Thought)
+moves_within : (scene : Scene) (m : Moment) (n : ℕ) (p : Option Program) (t : Option Position)
     → slice_get scene.programs n ≡ p → moves_at scene m n p t ≡ true
     → nat_lt n (length scene.programs) ≡ true
 moves_within scene m n None t at is = absurd (true≢false (sym is))
@@ -46,7 +46,7 @@ led_named scene (n ∷ ns) m at h =
     by true is leads rest =
         and_from (nat_lt n (length scene.programs))
         (list_all (λ n. nat_lt n (length scene.programs)) ns)
-        (moves_within scene m n (slice_get scene.programs n) (slice_get m.thoughts n) refl is)
+        (moves_within scene m n (slice_get scene.programs n) (slice_get m.positions n) refl is)
         (rest leads)
     by false is leads rest = absurd (none-some at (sym (led-none (moved scene) ns) ∙ leads))
 
@@ -104,7 +104,7 @@ not_named scene point m n beyond = by (slice_get scene.programs n) refl
   where
     by : (p : Option Program) → slice_get scene.programs n ≡ p
         → IsMoved scene point n
-        (if moves_at scene m n p (slice_get m.thoughts n) then Some (turn scene m n) else None)
+        (if moves_at scene m n p (slice_get m.positions n) then Some (turn scene m n) else None)
         None
     by None at = tt
     by (Some p) at =

@@ -28,23 +28,23 @@ use Rattle.journal_laws.proofs.Fresh.{Fresh}
 use Rattle.journal_laws.proofs.FreshSteps.{freshness_lem}
 use Rattle.order_alike.specs.Alike.{AreIn, AreListsAlike, IsAlike, IsAlikeBy, IsIn, IsInodeAlike, IsSound, digests_seen, places_in, unchecked}
 use Rattle.order_alike.proofs.Entries.{lists_alike}
-use Rattle.order_alike.specs.Names.{is_used, thought_named}
+use Rattle.order_alike.specs.Names.{is_used, position_named}
 use Rattle.order_outcomes.specs.Orders.{left_at}
 use Rattle.run_model.specs.Ended.{answered, answered_by, how_many, posted, posts_to, waited, waits_for}
 use Rattle.run_model.specs.EndedValue.{EndedValue, inodes_ended}
-use Rattle.run_model.specs.History.{Thought}
+use Rattle.run_model.specs.History.{Position}
 use Rattle.run_model.specs.Scene.{Program, Scene, ScriptFile, inode_of}
 use Rattle.run_model.specs.Turns.{Moment, State, journal_at}
 use Rattle.task_core.specs.Cells.{IsCellAt}
 use Rattle.task_core.specs.worlds.WorldConsts.{InodeConsts, inode_in, script_file_of}
-use Rattle.task_core.specs.worlds.Runs.{thought_of}
+use Rattle.task_core.specs.worlds.Runs.{position_of}
 use Rattle.order_sights.specs.Inodes.{AreFilesSame, AreJournalsSame, FitsIfThere, IsCellSame, IsPairFit}
-use Rattle.order_sights.specs.Pairs.{AreThoughtsPaired, are_apart, are_within, has_pair, named}
+use Rattle.order_sights.specs.Pairs.{ArePositionsPaired, are_apart, are_within, has_pair, named}
 use Rattle.order_sights.specs.Sights.{AreInodesSame, IsInodeSame, IsSight}
 use Rattle.order_sights.specs.declared.pairs.Pair.{Pair}
 use Rattle.order_sights.specs.declared.sight.Sight.{Sight}
 use Rattle.order_sights.proofs.Listing.{shown_same}
-use Rattle.order_sights.proofs.Naming.{named_apart, named_elsewhere, named_is, passed_all, thoughts_are, used_in}
+use Rattle.order_sights.proofs.Naming.{named_apart, named_elsewhere, named_is, passed_all, positions_are, used_in}
 use Rattle.order_sights.proofs.Saying.{listed_same, told_same, unchecked_beyond}
 use Rattle.order_sights.proofs.Taking.{taken_is}
 use Rattle.order_sights.proofs.Telling.{All-reverse}
@@ -182,8 +182,8 @@ beyond_none (x ∷ xs) (suc i) h = let rest = beyond_none xs i h in omega (arith
 -- ---- semaphores
 
 -- the answered calls don't depend on the names of files
-answered_named : (r : ℕ → ℕ → ℕ) (test : Call → Bool) (ps : List Program) (ts : List Thought)
-    → answered_by test ps (map (thought_named r) ts) ≡ answered_by test ps ts
+answered_named : (r : ℕ → ℕ → ℕ) (test : Call → Bool) (ps : List Program) (ts : List Position)
+    → answered_by test ps (map (position_named r) ts) ≡ answered_by test ps ts
 answered_named r test [] ts = refl
 answered_named r test (p ∷ ps) [] = refl
 answered_named r test (p ∷ ps) (t ∷ ts) =
@@ -252,18 +252,18 @@ module _ (scene : Scene) (m n : Moment) (a b : Sight) (one : IsSight scene m a)
     (within : are_within (length a.ended.inodes) pairs ≡ true)
     (there : AreIn b.ended.list a.ended.list) (back : AreIn a.ended.list b.ended.list)
     (added : a.ended.rules ≡ []) (added2 : b.ended.rules ≡ [])
-    (tasks : AreThoughtsPaired pairs (map thought_of a.tasks.items)
-    (map thought_of b.tasks.items))
+    (tasks : ArePositionsPaired pairs (map position_of a.tasks.items)
+    (map position_of b.tasks.items))
     (inodes : AreInodesSame pairs a b (length a.ended.inodes)) where
-  thoughts : AreThoughtsPaired pairs m.thoughts n.thoughts
-  thoughts =
-      subst (λ (us : List Thought). AreThoughtsPaired pairs m.thoughts us)
-      (ap (λ (x : Moment). x.thoughts) two.moment_is)
-      (subst (λ (ts : List Thought). AreThoughtsPaired pairs ts (map thought_of b.tasks.items))
-      (ap (λ (x : Moment). x.thoughts) one.moment_is) tasks)
+  positions : ArePositionsPaired pairs m.positions n.positions
+  positions =
+      subst (λ (us : List Position). ArePositionsPaired pairs m.positions us)
+      (ap (λ (x : Moment). x.positions) two.moment_is)
+      (subst (λ (ts : List Position). ArePositionsPaired pairs ts (map position_of b.tasks.items))
+      (ap (λ (x : Moment). x.positions) one.moment_is) tasks)
 
-  named_thoughts : n.thoughts ≡ map (thought_named (named pairs)) m.thoughts
-  named_thoughts = thoughts_are pairs apart m.thoughts n.thoughts thoughts
+  named_positions : n.positions ≡ map (position_named (named pairs)) m.positions
+  named_positions = positions_are pairs apart m.positions n.positions positions
 
   list_is : a.ended.list ≡ m.state.list
   list_is = ap (λ (e : EndedValue). e.list) one.left
@@ -289,9 +289,9 @@ module _ (scene : Scene) (m n : Moment) (a b : Sight) (one : IsSight scene m a)
   same_posted sem =
       (count_past sem n.state.signals).0
       ∙ sym (counted_when_reached scene n two.finished.reached sem).0
-      ∙ ap (λ (ts : List Thought). posted sem scene.programs ts) named_thoughts
+      ∙ ap (λ (ts : List Position). posted sem scene.programs ts) named_positions
       ∙ answered_named (named pairs) (posts_to sem) scene.programs
-      m.thoughts
+      m.positions
       ∙ (counted_when_reached scene m one.finished.reached sem).0
       ∙ sym (count_past sem m.state.signals).0
 
@@ -300,9 +300,9 @@ module _ (scene : Scene) (m n : Moment) (a b : Sight) (one : IsSight scene m a)
   same_waited sem =
       (count_past sem n.state.signals).1
       ∙ sym (counted_when_reached scene n two.finished.reached sem).1
-      ∙ ap (λ (ts : List Thought). waited sem scene.programs ts) named_thoughts
+      ∙ ap (λ (ts : List Position). waited sem scene.programs ts) named_positions
       ∙ answered_named (named pairs) (waits_for sem) scene.programs
-      m.thoughts
+      m.positions
       ∙ (counted_when_reached scene m one.finished.reached sem).1
       ∙ sym (count_past sem m.state.signals).1
 
@@ -330,19 +330,19 @@ module _ (scene : Scene) (m n : Moment) (a b : Sight) (one : IsSight scene m a)
       (ended_is scene n b two i st at x.cell2 x.at2)))
 
   inode_there : (i : ℕ) (st : ScriptFile) → slice_get scene.script_files i ≡ Some st
-      → IsInodeAlike (inode_of scene st) m.state.list n.state.list (is_used m.thoughts i)
+      → IsInodeAlike (inode_of scene st) m.state.list n.state.list (is_used m.positions i)
       (named pairs i) (journal_at m.state i) (journal_at n.state i)
   inode_there i st at =
       let x = here i st at in
       subst (λ (j2 : List Event). IsInodeAlike (inode_of scene st) m.state.list n.state.list
-      (is_used m.thoughts i) (named pairs i) (journal_at m.state i) j2)
+      (is_used m.positions i) (named pairs i) (journal_at m.state i) j2)
       (sym (journal_there scene n b two i st at x.cell2 x.at2))
       (subst (λ (j : List Event). IsInodeAlike (inode_of scene st) m.state.list n.state.list
-      (is_used m.thoughts i) (named pairs i) j x.cell2.list)
+      (is_used m.positions i) (named pairs i) j x.cell2.list)
       (sym (journal_there scene m a one i st at x.cell x.at))
       (inode_alike (inode_of scene st) m.state.list n.state.list pairs i x.cell.list x.cell2.list
-      (is_used m.thoughts i) apart
-      (λ f u. used_in pairs apart i f m.thoughts n.thoughts thoughts
+      (is_used m.positions i) apart
+      (λ f u. used_in pairs apart i f m.positions n.positions positions
       (journals i st at).files.uncounted u)
       (follows_is scene m a one i st at x.cell x.at)
       (follows_is scene n b two i st at x.cell2 x.at2) x.cell x.cell2 x.cells refl refl
@@ -361,7 +361,7 @@ module _ (scene : Scene) (m n : Moment) (a b : Sight) (one : IsSight scene m a)
     record {
       none = λ i. by i (slice_get scene.script_files i) refl;
       elsewhere = elsewhere;
-      thoughts = named_thoughts;
+      positions = named_positions;
       inodes = inode_there;
       lists = lists;
       added = rules;

@@ -4,11 +4,11 @@ use Rattle.std.specs.Prelude.{◌==◌, All, nat_lt}
 use Rattle.std.specs.List.{list_all, list_any}
 use Rattle.std.proofs.lemmas.Bool.{and_parts, eq-eqb, ltb-true, true≢false}
 use Rattle.std.proofs.lemmas.List.Elements.{All-head, All-tail}
-use Rattle.call_steps.specs.Mind.{Progress}
+use Rattle.call_steps.specs.CallState.{Progress}
 use Rattle.call_steps.specs.declared.held.Handle.{Handle}
-use Rattle.run_model.specs.History.{Thought}
-use Rattle.order_alike.specs.Names.{handle_named, has_file, in_handles, in_progress, is_used, progress_named, thought_named}
-use Rattle.order_sights.specs.Pairs.{AreThoughtsPaired, AreTwo, HandlesPaired, IsHandlePaired, IsProgressPaired, IsThoughtPaired, are_apart, are_within, has_pair, is_apart, is_pair, named, same_bool}
+use Rattle.run_model.specs.History.{Position}
+use Rattle.order_alike.specs.Names.{handle_named, has_file, in_handles, in_progress, is_used, position_named, progress_named}
+use Rattle.order_sights.specs.Pairs.{ArePositionsPaired, AreTwo, HandlesPaired, IsHandlePaired, IsPositionPaired, IsProgressPaired, are_apart, are_within, has_pair, is_apart, is_pair, named, same_bool}
 use Rattle.order_sights.specs.declared.pairs.Pair.{Pair}
 
 -- ---- lists
@@ -174,15 +174,15 @@ module _ (pairs : List Pair) (apart : are_apart pairs ≡ true) where
       (sym (named_is pairs apart x.inode x.file y.file both.files)))
 
   -- the tasks of the second moment are those of the first under the other names
-  pub thoughts_are : (ts us : List Thought) → AreThoughtsPaired pairs ts us
-      → us ≡ map (thought_named (named pairs)) ts
-  thoughts_are ts us h =
-      two_map (thought_named (named pairs)) ts us h.0
+  pub positions_are : (ts us : List Position) → ArePositionsPaired pairs ts us
+      → us ≡ map (position_named (named pairs)) ts
+  positions_are ts us h =
+      two_map (position_named (named pairs)) ts us h.0
       (λ j lt t u at at2. let both = h.1 j lt t u at at2 in λ i. record {
-        mind = record {
+        call_state = record {
           at = both.at i;
-          progress = progress_is t.mind.progress u.mind.progress both.progress i;
-          handles = handles_are t.mind.handles u.mind.handles both.handles i;
+          progress = progress_is t.call_state.progress u.call_state.progress both.progress i;
+          handles = handles_are t.call_state.handles u.call_state.handles both.handles i;
         };
         replies = both.replies i;
       })
@@ -210,17 +210,18 @@ module _ (pairs : List Pair) (apart : are_apart pairs ≡ true) where
       (λ (x : Handle). x.inode == i && x.file == f) hs ks h.0 h.1 is in
       in_pair i f found.0.inode found.0.file found.1.0.file found.1.1.1 found.1.1.0.files
 
-  file_in : (i f : ℕ) (t u : Thought) → IsThoughtPaired pairs t u → has_file i f t ≡ true
+  file_in : (i f : ℕ) (t u : Position) → IsPositionPaired pairs t u → has_file i f t ≡ true
       → (g : ℕ) × (has_pair pairs i f g ≡ true)
-  file_in i f t u h is = by (in_progress i f t.mind.progress) refl is
+  file_in i f t u h is = by (in_progress i f t.call_state.progress) refl is
     where
-      by : (b : Bool) → in_progress i f t.mind.progress ≡ b
-          → (b || in_handles i f t.mind.handles) ≡ true
+      by : (b : Bool) → in_progress i f t.call_state.progress ≡ b
+          → (b || in_handles i f t.call_state.handles) ≡ true
           → (g : ℕ) × (has_pair pairs i f g ≡ true)
-      by true here found = progress_in i f t.mind.progress u.mind.progress h.progress here
-      by false here found = handles_in i f t.mind.handles u.mind.handles h.handles found
+      by true here found =
+          progress_in i f t.call_state.progress u.call_state.progress h.progress here
+      by false here found = handles_in i f t.call_state.handles u.call_state.handles h.handles found
 
-  pub used_in : (i f : ℕ) (ts us : List Thought) → AreThoughtsPaired pairs ts us
+  pub used_in : (i f : ℕ) (ts us : List Position) → ArePositionsPaired pairs ts us
       → has_pair pairs i 0 0 ≡ true → is_used ts i f ≡ true
       → (g : ℕ) × (has_pair pairs i f g ≡ true)
   used_in i f ts us h none is = by (f == 0) refl is
@@ -230,5 +231,5 @@ module _ (pairs : List Pair) (apart : are_apart pairs ≡ true) where
       by true here found =
           (0, ap (λ n. has_pair pairs i n 0) (eqb-true f 0 here) ∙ none)
       by false here found =
-          let there = any_two (IsThoughtPaired pairs) (has_file i f) ts us h.0 h.1 found in
+          let there = any_two (IsPositionPaired pairs) (has_file i f) ts us h.0 h.1 found in
           file_in i f there.0 there.1.0 there.1.1.0 there.1.1.1

@@ -1,9 +1,9 @@
 -- The files of two moments in pairs, and tasks that are the same but for the names of their files.
 use Rattle.std.specs.Prelude.{◌≡◌, ℕ, ◌==◌, ◌<◌, ◌&&◌, ◌||◌, not, nat_lt, Bool, true, List, [], ◌∷◌, length, Option, Some, None, slice_get, if◌then◌else◌}
 use Rattle.std.specs.List.{list_all, list_any}
-use Rattle.call_steps.specs.Mind.{Progress}
+use Rattle.call_steps.specs.CallState.{Progress}
 use Rattle.call_steps.specs.declared.held.Handle.{Handle}
-use Rattle.run_model.specs.History.{Thought}
+use Rattle.run_model.specs.History.{Position}
 use Rattle.order_sights.specs.declared.pairs.Pair.{Pair}
 
 -- ---- pairs
@@ -67,12 +67,12 @@ HandlesPaired pairs hs ks =
     (length ks ≡ length hs) × AreTwo (IsHandlePaired pairs) hs ks (length hs)
 
 -- the tasks are the same, but for the names of their files
-pub record IsThoughtPaired (pairs : List Pair) (t u : Thought) : Type 0 where
-  pub at : u.mind.at ≡ t.mind.at
-  pub progress : IsProgressPaired pairs t.mind.progress u.mind.progress
-  pub handles : HandlesPaired pairs t.mind.handles u.mind.handles
+pub record IsPositionPaired (pairs : List Pair) (t u : Position) : Type 0 where
+  pub at : u.call_state.at ≡ t.call_state.at
+  pub progress : IsProgressPaired pairs t.call_state.progress u.call_state.progress
+  pub handles : HandlesPaired pairs t.call_state.handles u.call_state.handles
   pub replies : u.replies ≡ t.replies
 
-abbrev pub AreThoughtsPaired : List Pair → List Thought → List Thought → Type 0
-AreThoughtsPaired pairs ts us =
-    (length us ≡ length ts) × AreTwo (IsThoughtPaired pairs) ts us (length ts)
+abbrev pub ArePositionsPaired : List Pair → List Position → List Position → Type 0
+ArePositionsPaired pairs ts us =
+    (length us ≡ length ts) × AreTwo (IsPositionPaired pairs) ts us (length ts)

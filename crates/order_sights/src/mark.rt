@@ -3,7 +3,7 @@
 use crate::sight::Sight;
 use inode_cell::InodeCell;
 use inode_events::templates::Entry;
-use task_mind::TaskMind;
+use task_state::TaskState;
 
 const FIRST: u64 = 0xcbf2_9ce4_8422_2325;
 
@@ -24,14 +24,14 @@ fn bit_of(entry: &Entry) -> u64 {
     1 << (mark >> 32) % 64
 }
 
-fn with_mind(mark: u64, mind: &TaskMind) -> u64 {
-    let step = match mind.progress() {
+fn with_task_state(mark: u64, task_state: &TaskState) -> u64 {
+    let step = match task_state.progress() {
         Some(progress) => u64::from(progress.step) + 1,
         None => 0,
     };
-    let mark = mixed(mark, u64::from(mind.at()));
+    let mark = mixed(mark, u64::from(task_state.at()));
     let mark = mixed(mark, step);
-    mixed(mark, mind.handles().len() as u64)
+    mixed(mark, task_state.handles().len() as u64)
 }
 
 fn with_inode(mark: u64, cell: &InodeCell) -> u64 {
@@ -57,7 +57,7 @@ impl Sight {
         }
         let mut mark = mixed(FIRST, bits);
         for task in &self.tasks {
-            mark = with_mind(mark, task.mind());
+            mark = with_task_state(mark, task.task_state());
         }
         for i in 0..self.ended.inodes.len() {
             if let Some(cell) = self.world.inode(i) {

@@ -3,12 +3,12 @@
 ghost use Rattle.std.specs.Prelude.{◌≡◌, IsTrue};
 ghost use Rattle.std.specs.List.{list_all, list_any};
 ghost use Rattle.order_sights.specs.Pairs.{HandlesPaired, IsHandlePaired, IsProgressPaired, are_apart, are_within, has_pair, is_apart, is_pair};
-ghost use Rattle.task_mind.specs.Value.{progress_in};
+ghost use Rattle.task_state.specs.Value.{progress_in};
 ghost use Rattle.std.specs.Prelude.{option_map};
 
 use crate::same::Same;
 use call_steps::Handle;
-use task_mind::Progress;
+use task_state::Progress;
 
 /// A file of an inode in one moment, and the same file in another.
 #[derive(Clone, Copy, Debug)]

@@ -1,15 +1,15 @@
 // The tasks of two moments.
 
 ghost use Rattle.std.specs.Prelude.{◌≡◌, IsTrue, map};
-ghost use Rattle.order_sights.specs.Pairs.{AreThoughtsPaired, IsThoughtPaired};
-ghost use Rattle.task_core.specs.worlds.Runs.{thought_of};
+ghost use Rattle.order_sights.specs.Pairs.{ArePositionsPaired, IsPositionPaired};
+ghost use Rattle.task_core.specs.worlds.Runs.{position_of};
 
 use crate::pairs::{Pair, same_handles, same_progress};
 use crate::same::same_all;
 use call_steps::Handle;
 use std::alloc::{AllocError as OutOfMemory, Global};
 use task_core::Task;
-use task_mind::{Progress, TaskMind};
+use task_state::{Progress, TaskState};
 
 // ---- which files are to be pairs
 
@@ -56,16 +56,24 @@ pub fn pairs_of(
         })?;
     }
     for (a, b) in a.iter().zip(b) {
-        push_progress(&mut pairs, a.mind().progress(), b.mind().progress())?;
-        push_handles(&mut pairs, a.mind().handles(), b.mind().handles())?;
+        push_progress(
+            &mut pairs,
+            a.task_state().progress(),
+            b.task_state().progress(),
+        )?;
+        push_handles(
+            &mut pairs,
+            a.task_state().handles(),
+            b.task_state().handles(),
+        )?;
     }
     Ok(pairs)
 }
 
 // ---- whether the tasks are the same
 
-fn same_mind(pairs: &[Pair], a: &TaskMind, b: &TaskMind) -> bool
-    ensures { IsTrue result → IsThoughtPaired pairs.now a.now.thought b.now.thought }
+fn same_task_state(pairs: &[Pair], a: &TaskState, b: &TaskState) -> bool
+    ensures { IsTrue result → IsPositionPaired pairs.now a.now.position b.now.position }
 {
     let here = a.at();
     let there = b.at();
@@ -82,15 +90,15 @@ fn same_mind(pairs: &[Pair], a: &TaskMind, b: &TaskMind) -> bool
 }
 
 fn same_task(pairs: &[Pair], a: &Task, b: &Task) -> bool
-    ensures { IsTrue result → IsThoughtPaired pairs.now (thought_of a.now) (thought_of b.now) }
+    ensures { IsTrue result → IsPositionPaired pairs.now (position_of a.now) (position_of b.now) }
 {
-    same_mind(pairs, a.mind(), b.mind())
+    same_task_state(pairs, a.task_state(), b.task_state())
 }
 
 /// Whether the tasks at the same places are the same, with files that are pairs.
 pub fn same_tasks(pairs: &[Pair], a: &[Task], b: &[Task]) -> bool
     ensures { IsTrue result
-        → AreThoughtsPaired pairs.now (map thought_of a.now) (map thought_of b.now) }
+        → ArePositionsPaired pairs.now (map position_of a.now) (map position_of b.now) }
 {
     if a.len() != b.len() {
         return false;

@@ -8,7 +8,7 @@ use Rattle.inode_events.specs.Files.{can_read, is_writer}
 use Rattle.inode_events.specs.declared.deed.How.{How}
 use Rattle.call_steps.specs.Handles.{handle_of, held_by, is_free, names_of, same_name, without}
 use Rattle.std.specs.Prelude.{option_map}
-use Rattle.call_steps.specs.Mind.{Progress, begun, file_of, how_held, inode_of}
+use Rattle.call_steps.specs.CallState.{Progress, begun, file_of, how_held, inode_of}
 use Rattle.call_steps.specs.Steps.{course_of, at_once, check, close, first, how_of, due}
 use Rattle.call_steps.specs.declared.held.Hand.{Hand}
 use Rattle.call_steps.specs.declared.ask.Ask.{Ask}

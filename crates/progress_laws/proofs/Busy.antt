@@ -25,15 +25,15 @@ use Rattle.inode_events.specs.declared.deed.How.{How}
 use Rattle.inode_events.specs.declared.told.Event.{Event}
 use Rattle.inode_events.specs.declared.told.Told.{Told}
 use Rattle.inode_events.specs.declared.told.Told.TheVariants as told
-use Rattle.call_steps.specs.Mind.{Mind, Progress, Step, ask_of, begun, deed_of, file_after, moved, plain_step, progress_of, step_by}
-use Rattle.call_steps.specs.Mind.{Nothing, Does, Checks, Signals, Appends}
+use Rattle.call_steps.specs.CallState.{CallState, Progress, Step, ask_of, begun, deed_of, file_after, moved, plain_step, progress_of, step_by}
+use Rattle.call_steps.specs.CallState.{Nothing, Does, Checks, Signals, Appends}
 use Rattle.call_steps.specs.Steps.{course_of, next, next_by}
 use Rattle.call_steps.specs.declared.ask.Ask.{Ask}
 use Rattle.call_steps.specs.declared.ask.Ask.TheVariants as ask
 use Rattle.call_steps.specs.declared.call.Call.{Call}
 use Rattle.call_steps.specs.declared.call.Call.TheVariants as call
 use Rattle.call_steps.specs.declared.reply.Reply.{Reply}
-use Rattle.run_model.specs.History.{Answer, Thought, call_at, event, event_in, hear_in, own, step_at, step_in, thought, thought_with, who_at}
+use Rattle.run_model.specs.History.{Answer, Position, call_at, event, event_in, own, position, position_with, resume_in, step_at, step_in, who_at}
 use Rattle.run_model.specs.Scene.{Program}
 use Rattle.run_model.specs.Served.{events_of}
 use Rattle.list_lemmas.proofs.Containing.{has_reverse}
@@ -108,7 +108,7 @@ abbrev Going : Progress → ℕ → ℕ → Type 0
 Going g i f = (g.inode ≡ i) × (g.file ≡ f) × IsGoing g.due.ask
 
 -- the call in progress acts on this file
-abbrev GoesAt : Program → Mind → ℕ → ℕ → Type 0
+abbrev GoesAt : Program → CallState → ℕ → ℕ → Type 0
 GoesAt p m i f =
     (c : Call) × (g : Progress) × (call_at p m ≡ Some c) × (m.progress ≡ Some g) × Going g i f
 
@@ -194,7 +194,7 @@ deed_calm admin (call.SetAttr inode name value) file t = refl
 deed_calm admin (call.SetMeta inode change) file t = refl
 deed_calm admin c file t = refl
 
-busy_step : (inode : Inode) (mode : Mode) (p : Program) (m : Mind) (c : Call)
+busy_step : (inode : Inode) (mode : Mode) (p : Program) (m : CallState) (c : Call)
     → call_at p m ≡ Some c → (k : Ask) (r : Reply) (step gi gf : ℕ) (how : How) (i f place : ℕ)
     (u : Told) (action : Action) (rules : ℕ) (l : Stage)
     → (is_collecting l ≡ true → Going (mk k r step gi gf how) i f)
@@ -318,43 +318,44 @@ event_fits i who (Checks j file func mask) a h = tt
 event_fits i who (Signals d) a h = tt
 event_fits i who (Appends rule) a h = tt
 
-going_now : (p : Program) (m : Mind) (c : Call) (i f : ℕ) → GoesAt p m i f
+going_now : (p : Program) (m : CallState) (c : Call) (i f : ℕ) → GoesAt p m i f
     → Going (progress_of p.cred.admin c m) i f
 going_now p m c i f g =
     subst (λ (x : Progress). Going x i f) (sym
     (ap (λ (o : Option Progress). unwrap_or o (begun p.cred.admin m.handles c)) g.3)) g.4
 
-busy_call : (inode : Inode) (mode : Mode) (p : Program) (t : Thought) (a : Answer) (who : Who)
-    (i f : ℕ) (xs : List (ℕ × Event)) (o : Option Call) → call_at p t.mind ≡ o
-    → (is_collecting (stage_in inode f (reverse xs)) ≡ true → GoesAt p t.mind i f)
-    → All FitsPlaced (xs ++ event_in i who (step_in p o t.mind) a)
-    → is_collecting (stage_in inode f (reverse (xs ++ event_in i who (step_in p o t.mind) a)))
-    ≡ true → GoesAt p (hear_in mode p o t a).mind i f
+busy_call : (inode : Inode) (mode : Mode) (p : Program) (t : Position) (a : Answer) (who : Who)
+    (i f : ℕ) (xs : List (ℕ × Event)) (o : Option Call) → call_at p t.call_state ≡ o
+    → (is_collecting (stage_in inode f (reverse xs)) ≡ true → GoesAt p t.call_state i f)
+    → All FitsPlaced (xs ++ event_in i who (step_in p o t.call_state) a)
+    → is_collecting (stage_in inode f (reverse (xs ++ event_in i who (step_in p o t.call_state) a)))
+    ≡ true → GoesAt p (resume_in mode p o t a).call_state i f
 busy_call inode mode p t a who i f xs None at ih fits h =
     ih (sym (ap is_collecting (same_more (stage_in inode f) xs)) ∙ h)
 busy_call inode mode p t a who i f xs (Some c) at ih fits h =
-    let g : Progress = progress_of p.cred.admin c t.mind in
-    busy_step inode mode p t.mind c at (progress_of p.cred.admin c t.mind).due.ask
-    (progress_of p.cred.admin c t.mind).due.reply (progress_of p.cred.admin c t.mind).step
-    (progress_of p.cred.admin c t.mind).inode (progress_of p.cred.admin c t.mind).file
-    (progress_of p.cred.admin c t.mind).how i f a.place a.told a.action a.rules
+    let g : Progress = progress_of p.cred.admin c t.call_state in
+    busy_step inode mode p t.call_state c at (progress_of p.cred.admin c t.call_state).due.ask
+    (progress_of p.cred.admin c t.call_state).due.reply
+    (progress_of p.cred.admin c t.call_state).step
+    (progress_of p.cred.admin c t.call_state).inode (progress_of p.cred.admin c t.call_state).file
+    (progress_of p.cred.admin c t.call_state).how i f a.place a.told a.action a.rules
     (stage_in inode f (reverse xs))
-    (λ b. going_now p t.mind c i f (ih b))
-    (event_fits i who (ask_of p.cred.admin c t.mind) a
-    (all_right FitsPlaced xs (event_in i who (Some (ask_of p.cred.admin c t.mind)) a) fits))
-    (sym (ap is_collecting (life_step inode i f who (ask_of p.cred.admin c t.mind) a xs)) ∙ h)
+    (λ b. going_now p t.call_state c i f (ih b))
+    (event_fits i who (ask_of p.cred.admin c t.call_state) a
+    (all_right FitsPlaced xs (event_in i who (Some (ask_of p.cred.admin c t.call_state)) a) fits))
+    (sym (ap is_collecting (life_step inode i f who (ask_of p.cred.admin c t.call_state) a xs)) ∙ h)
 
 busy_history : (inode : Inode) (mode : Mode) (n : ℕ) (p : Program) (i f : ℕ) (h : List Answer)
     → All FitsPlaced (own mode n p i h)
     → is_collecting (stage_in inode f (reverse (own mode n p i h))) ≡ true
-    → GoesAt p (thought mode p h).mind i f
+    → GoesAt p (position mode p h).call_state i f
 busy_history inode mode n p i f [] fits b = absurd (cc)
 busy_history inode mode n p i f (a ∷ h) fits b =
-    busy_call inode mode p (thought mode p h) a (who_at n p (thought mode p h).mind) i f
-    (own mode n p i h) (call_at p (thought mode p h).mind) refl
+    busy_call inode mode p (position mode p h) a (who_at n p (position mode p h).call_state) i f
+    (own mode n p i h) (call_at p (position mode p h).call_state) refl
     (busy_history inode mode n p i f h (all_left FitsPlaced (own mode n p i h)
-    (event_in i (who_at n p (thought mode p h).mind)
-    (step_at p (thought mode p h).mind) a) fits)) fits b
+    (event_in i (who_at n p (position mode p h).call_state)
+    (step_at p (position mode p h).call_state) a) fits)) fits b
 
 going_step : (admin : Bool) (c : Call) (k : Ask) (r : Reply) (step gi gf : ℕ) (how : How)
     → IsGoing k → (d : Deed) × (step_by admin c (mk k r step gi gf how) k ≡ Does gi d) × GoesOn gf d
@@ -369,21 +370,22 @@ busy_goes inode mode n p h i journal f legal owns b =
     let fits : All FitsPlaced (own mode n p i h) =
     subst (All FitsPlaced) owns (entries_fit (n + 1) 0 (map caller_of journal) journal
     (all_past journal (all_legal inode (newest_first journal) legal))) in
-    let goes : GoesAt p (thought mode p h).mind i f = busy_history inode mode n p i f h fits b in
+    let goes : GoesAt p (position mode p h).call_state i f =
+    busy_history inode mode n p i f h fits b in
     finish goes where
-      finish : GoesAt p (thought mode p h).mind i f
-          → (d : Deed) × (step_at p (thought mode p h).mind ≡ Some (Does i d)) × GoesOn f d
+      finish : GoesAt p (position mode p h).call_state i f
+          → (d : Deed) × (step_at p (position mode p h).call_state ≡ Some (Does i d)) × GoesOn f d
       finish goes =
           let c : Call = goes.0 in
           let g : Progress = goes.1 in
           let s = going_step p.cred.admin goes.0 goes.1.due.ask goes.1.due.reply goes.1.step
           goes.1.inode goes.1.file goes.1.how goes.4.2 in
-          let now : progress_of p.cred.admin goes.0 (thought mode p h).mind ≡ goes.1 =
+          let now : progress_of p.cred.admin goes.0 (position mode p h).call_state ≡ goes.1 =
           ap (λ (o : Option Progress). unwrap_or o
-          (begun p.cred.admin (thought mode p h).mind.handles goes.0)) goes.3 in
-          let at : step_at p (thought mode p h).mind
+          (begun p.cred.admin (position mode p h).call_state.handles goes.0)) goes.3 in
+          let at : step_at p (position mode p h).call_state
           ≡ Some (step_by p.cred.admin goes.0 goes.1 goes.1.due.ask) =
-          ap (λ (o : Option Call). step_in p o (thought mode p h).mind) goes.2
+          ap (λ (o : Option Call). step_in p o (position mode p h).call_state) goes.2
           ∙ ap (λ (y : Progress). Some (step_by p.cred.admin goes.0 y y.due.ask)) now in (
             s.0,
             at ∙ ap (λ (x : Step). Some x) s.1 ∙ ap (λ (j : ℕ). Some (Does j s.0)) goes.4.0,

@@ -10,8 +10,8 @@ use Rattle.inode_events.specs.declared.deed.Deed.{Deed}
 use Rattle.inode_events.specs.declared.deed.Deed.TheVariants as deed
 use Rattle.inode_events.specs.declared.told.Event.{Event}
 use Rattle.inode_events.specs.declared.told.Told.{Told}
-use Rattle.call_steps.specs.Mind.{Mind, Progress, Step, after_of, ask_of, begun, fresh, handles_after, moved, plain_step, progress_of, step_by}
-use Rattle.call_steps.specs.Mind.{Nothing, Does, Checks, Signals, Appends}
+use Rattle.call_steps.specs.CallState.{CallState, Progress, Step, after_of, ask_of, begun, fresh, handles_after, moved, plain_step, progress_of, step_by}
+use Rattle.call_steps.specs.CallState.{Nothing, Does, Checks, Signals, Appends}
 use Rattle.call_steps.specs.Steps.{next}
 use Rattle.call_steps.specs.declared.ask.Ask.{Ask}
 use Rattle.call_steps.specs.declared.ask.Ask.TheVariants as ask
@@ -21,7 +21,7 @@ use Rattle.call_steps.specs.declared.held.Handle.{Handle}
 use Rattle.call_steps.specs.declared.reply.Reply.{Reply}
 use Rattle.call_steps.specs.declared.reply.Reply.TheVariants as reply
 use Rattle.run_model.specs.Ended.{how_many, posts_to, waits_for}
-use Rattle.run_model.specs.History.{Answer, Thought, call_at, hear, hear_in, own_signals, signal_in, step_at, step_in, thought, thought_with, replied, who_at}
+use Rattle.run_model.specs.History.{Answer, Position, call_at, resume, resume_in, own_signals, signal_in, step_at, step_in, position, position_with, replied, who_at}
 use Rattle.run_model.specs.Scene.{Program}
 use Rattle.call_steps.specs.declared.due.Next.{Next}
 use Rattle.call_steps.specs.declared.due.Next.TheVariants.{On, Over}
@@ -59,13 +59,13 @@ abbrev pub bit : Bool → ℕ
 bit b = cond b 1 0
 
 -- the task's position matches its replies, and its deeds on the semaphores match its answered calls
-pub record Fits (on_deed : Deed → Bool) (on_call : Call → Bool) (p : Program) (t : Thought)
+pub record Fits (on_deed : Deed → Bool) (on_call : Call → Bool) (p : Program) (t : Position)
     (xs : List (ℕ × Event)) : Type 0 where
-  pub even : length t.replies ≡ t.mind.at
-  pub within : t.mind.at ≤ length p.calls
-  pub begins : (c : Call) (d : Deed) → call_at p t.mind ≡ Some c → signal_of c ≡ Some d
-      → t.mind.progress ≡ None
-  pub counted : how_many on_call (take t.mind.at p.calls) ≡ passing on_deed xs
+  pub even : length t.replies ≡ t.call_state.at
+  pub within : t.call_state.at ≤ length p.calls
+  pub begins : (c : Call) (d : Deed) → call_at p t.call_state ≡ Some c → signal_of c ≡ Some d
+      → t.call_state.progress ≡ None
+  pub counted : how_many on_call (take t.call_state.at p.calls) ≡ passing on_deed xs
 
 how_many_more : (test : Call → Bool) (cs : List Call) (k : ℕ) (c : Call) → slice_get cs k ≡ Some c
     → how_many test (take (suc k) cs) ≡ how_many test (take k cs) + bit (test c)
@@ -90,28 +90,28 @@ passing_append on_deed (x ∷ xs) ys = at (on_deed x.1.deed) (passing_append on_
   at false e = e
 
 -- answering the call keeps the match
-answered_fits : (on_deed : Deed → Bool) (on_call : Call → Bool) (p : Program) (t : Thought)
+answered_fits : (on_deed : Deed → Bool) (on_call : Call → Bool) (p : Program) (t : Position)
     (xs ys : List (ℕ × Event)) (c : Call) (r : Reply) (hs : List Handle)
-    → Fits on_deed on_call p t xs → call_at p t.mind ≡ Some c → passing on_deed ys ≡ bit (on_call c)
-    → Fits on_deed on_call p (record {
-      mind = record {
-        at = t.mind.at + 1;
+    → Fits on_deed on_call p t xs → call_at p t.call_state ≡ Some c
+    → passing on_deed ys ≡ bit (on_call c) → Fits on_deed on_call p (record {
+      call_state = record {
+        at = t.call_state.at + 1;
         progress = None;
         handles = hs;
       };
       replies = t.replies ++ r ∷ [];
     }) (xs ++ ys)
 answered_fits on_deed on_call p t xs ys c r hs f at e =
-    let even : length t.replies ≡ t.mind.at = f.even in
-    let inside : t.mind.at < length p.calls = slice_get_within p.calls t.mind.at c at in
-    let next : t.mind.at + 1 ≡ suc t.mind.at = omega arith in
-    let more : how_many on_call (take (suc t.mind.at) p.calls)
-    ≡ how_many on_call (take t.mind.at p.calls) + bit
-    (on_call c) = how_many_more on_call p.calls t.mind.at c at in
-    let old : how_many on_call (take t.mind.at p.calls) ≡ passing on_deed xs = f.counted in
+    let even : length t.replies ≡ t.call_state.at = f.even in
+    let inside : t.call_state.at < length p.calls = slice_get_within p.calls t.call_state.at c at in
+    let next : t.call_state.at + 1 ≡ suc t.call_state.at = omega arith in
+    let more : how_many on_call (take (suc t.call_state.at) p.calls)
+    ≡ how_many on_call (take t.call_state.at p.calls) + bit
+    (on_call c) = how_many_more on_call p.calls t.call_state.at c at in
+    let old : how_many on_call (take t.call_state.at p.calls) ≡ passing on_deed xs = f.counted in
     let both : passing on_deed (xs ++ ys) ≡ passing on_deed xs + passing on_deed ys =
     passing_append on_deed xs ys in
-    let whole : how_many on_call (take (suc t.mind.at) p.calls) ≡ passing on_deed (xs ++ ys) =
+    let whole : how_many on_call (take (suc t.call_state.at) p.calls) ≡ passing on_deed (xs ++ ys) =
     omega arith in
     record {
       even = omega (arith, length-append t.replies (r ∷ []));
@@ -122,10 +122,10 @@ answered_fits on_deed on_call p t xs ys c r hs f at e =
 
 -- a call that is neither a post nor a wait keeps the match
 quiet_fits : (on_deed : Deed → Bool) (on_call : Call → Bool) → Agree on_deed on_call
-    → (p : Program) (t : Thought) (xs : List (ℕ × Event)) (c : Call) (g : Progress) (place : ℕ)
+    → (p : Program) (t : Position) (xs : List (ℕ × Event)) (c : Call) (g : Progress) (place : ℕ)
     (x : Next)
-    → Fits on_deed on_call p t xs → call_at p t.mind ≡ Some c → signal_of c ≡ None
-    → Fits on_deed on_call p (thought_with t (moved c t.mind g place x)) (xs ++ [])
+    → Fits on_deed on_call p t xs → call_at p t.call_state ≡ Some c → signal_of c ≡ None
+    → Fits on_deed on_call p (position_with t (moved c t.call_state g place x)) (xs ++ [])
 quiet_fits on_deed on_call agree p t xs c g place (On plan) f at q = record {
   even = f.even;
   within = f.within;
@@ -135,29 +135,30 @@ quiet_fits on_deed on_call agree p t xs c g place (On plan) f at q = record {
   counted = f.counted ∙ ap (passing on_deed) (sym (append-nil xs));
 }
 quiet_fits on_deed on_call agree p t xs c g place (Over r) f at q =
-    answered_fits on_deed on_call p t xs [] c r (handles_after c g r t.mind.handles) f at
+    answered_fits on_deed on_call p t xs [] c r (handles_after c g r t.call_state.handles) f at
     (sym (ap bit (agree.quiet c q)))
 
 -- a post or a wait keeps the match
 signal_fits : (on_deed : Deed → Bool) (on_call : Call → Bool) → Agree on_deed on_call
-    → (mode : Mode) (p : Program) (t : Thought) (a : Answer) (who : Who) (xs : List (ℕ × Event))
+    → (mode : Mode) (p : Program) (t : Position) (a : Answer) (who : Who) (xs : List (ℕ × Event))
     (c : Call) (d : Deed)
-    → Fits on_deed on_call p t xs → call_at p t.mind ≡ Some c → signal_of c ≡ Some d
-    → (g : Progress) → g ≡ begun p.cred.admin t.mind.handles c
-    → Fits on_deed on_call p (thought_with t (moved c t.mind g a.place
+    → Fits on_deed on_call p t xs → call_at p t.call_state ≡ Some c → signal_of c ≡ Some d
+    → (g : Progress) → g ≡ begun p.cred.admin t.call_state.handles c
+    → Fits on_deed on_call p (position_with t (moved c t.call_state g a.place
     (next mode c g.due a.told a.action)))
     (xs ++ signal_in who (Some (step_by p.cred.admin c g g.due.ask)) a)
 signal_fits on_deed on_call agree mode p t a who xs c d f at s g e =
     subst (λ (y : Progress). Fits on_deed on_call p
-    (thought_with t (moved c t.mind y a.place (next mode c y.due a.told a.action)))
+    (position_with t (moved c t.call_state y a.place (next mode c y.due a.told a.action)))
     (xs ++ signal_in who (Some (step_by p.cred.admin c y y.due.ask)) a)) (sym e)
     (by_call c d s at) where
-      by_call : (c : Call) (d : Deed) → signal_of c ≡ Some d → call_at p t.mind ≡ Some c
-          → Fits on_deed on_call p (thought_with t
-          (moved c t.mind (begun p.cred.admin t.mind.handles c) a.place
-          (next mode c (begun p.cred.admin t.mind.handles c).due a.told a.action)))
-          (xs ++ signal_in who (Some (step_by p.cred.admin c (begun p.cred.admin t.mind.handles c)
-          (begun p.cred.admin t.mind.handles c).due.ask)) a)
+      by_call : (c : Call) (d : Deed) → signal_of c ≡ Some d → call_at p t.call_state ≡ Some c
+          → Fits on_deed on_call p (position_with t
+          (moved c t.call_state (begun p.cred.admin t.call_state.handles c) a.place
+          (next mode c (begun p.cred.admin t.call_state.handles c).due a.told a.action)))
+          (xs ++ signal_in who
+          (Some (step_by p.cred.admin c (begun p.cred.admin t.call_state.handles c)
+          (begun p.cred.admin t.call_state.handles c).due.ask)) a)
       by_call (call.Post sem) d s at =
           answered_fits on_deed on_call p t xs ((
             a.place,
@@ -175,29 +176,30 @@ signal_fits on_deed on_call agree mode p t a who xs c d f at s g e =
       by_call c d s at = absurd (cc)
 
 call_fits : (on_deed : Deed → Bool) (on_call : Call → Bool) → Agree on_deed on_call
-    → (mode : Mode) (p : Program) (t : Thought) (a : Answer) (who : Who) (xs : List (ℕ × Event))
+    → (mode : Mode) (p : Program) (t : Position) (a : Answer) (who : Who) (xs : List (ℕ × Event))
     (c : Call) (o : Option Deed)
-    → Fits on_deed on_call p t xs → call_at p t.mind ≡ Some c → signal_of c ≡ o
-    → Fits on_deed on_call p (hear_in mode p (Some c) t a)
-    (xs ++ signal_in who (Some (ask_of p.cred.admin c t.mind)) a)
+    → Fits on_deed on_call p t xs → call_at p t.call_state ≡ Some c → signal_of c ≡ o
+    → Fits on_deed on_call p (resume_in mode p (Some c) t a)
+    (xs ++ signal_in who (Some (ask_of p.cred.admin c t.call_state)) a)
 call_fits on_deed on_call agree mode p t a who xs c None f at q =
-    let g : Progress = progress_of p.cred.admin c t.mind in
-    subst (λ (l : List (ℕ × Event)). Fits on_deed on_call p (hear_in mode p (Some c) t a) (xs ++ l))
-    (sym (step_quiet p.cred.admin c (progress_of p.cred.admin c t.mind)
-    (progress_of p.cred.admin c t.mind).due.ask q who a))
-    (quiet_fits on_deed on_call agree p t xs c (progress_of p.cred.admin c t.mind) a.place
-    (next mode c (progress_of p.cred.admin c t.mind).due a.told a.action) f at q)
+    let g : Progress = progress_of p.cred.admin c t.call_state in
+    subst (λ (l : List (ℕ × Event)). Fits on_deed on_call p (resume_in mode p (Some c) t a)
+    (xs ++ l)) (sym (step_quiet p.cred.admin c (progress_of p.cred.admin c t.call_state)
+    (progress_of p.cred.admin c t.call_state).due.ask q who a))
+    (quiet_fits on_deed on_call agree p t xs c (progress_of p.cred.admin c t.call_state) a.place
+    (next mode c (progress_of p.cred.admin c t.call_state).due a.told a.action) f at q)
 call_fits on_deed on_call agree mode p t a who xs c (Some d) f at s =
     signal_fits on_deed on_call agree mode p t a who xs c d f at s
-    (progress_of p.cred.admin c t.mind)
-    (ap (λ (o : Option Progress). unwrap_or o (begun p.cred.admin t.mind.handles c))
+    (progress_of p.cred.admin c t.call_state)
+    (ap (λ (o : Option Progress). unwrap_or o (begun p.cred.admin t.call_state.handles c))
     (f.begins c d at s))
 
 step_fits : (on_deed : Deed → Bool) (on_call : Call → Bool) → Agree on_deed on_call
-    → (mode : Mode) (p : Program) (t : Thought) (a : Answer) (who : Who) (xs : List (ℕ × Event))
+    → (mode : Mode) (p : Program) (t : Position) (a : Answer) (who : Who) (xs : List (ℕ × Event))
     (o : Option Call)
-    → Fits on_deed on_call p t xs → call_at p t.mind ≡ o
-    → Fits on_deed on_call p (hear_in mode p o t a) (xs ++ signal_in who (step_in p o t.mind) a)
+    → Fits on_deed on_call p t xs → call_at p t.call_state ≡ o
+    → Fits on_deed on_call p (resume_in mode p o t a)
+    (xs ++ signal_in who (step_in p o t.call_state) a)
 step_fits on_deed on_call agree mode p t a who xs None f at =
     subst (Fits on_deed on_call p t) (sym (append-nil xs)) f
 step_fits on_deed on_call agree mode p t a who xs (Some c) f at =
@@ -205,13 +207,13 @@ step_fits on_deed on_call agree mode p t a who xs (Some c) f at =
 
 pub history_fits : (on_deed : Deed → Bool) (on_call : Call → Bool) → Agree on_deed on_call
     → (mode : Mode) (n : ℕ) (p : Program) (h : List Answer)
-    → Fits on_deed on_call p (thought mode p h) (own_signals mode n p h)
+    → Fits on_deed on_call p (position mode p h) (own_signals mode n p h)
 history_fits on_deed on_call agree mode n p [] =
     record { even = refl; within = omega arith; begins = λ c d x y. refl; counted = refl }
 history_fits on_deed on_call agree mode n p (a ∷ h) =
-    step_fits on_deed on_call agree mode p (thought mode p h) a
-    (who_at n p (thought mode p h).mind) (own_signals mode n p h)
-    (call_at p (thought mode p h).mind)
+    step_fits on_deed on_call agree mode p (position mode p h) a
+    (who_at n p (position mode p h).call_state) (own_signals mode n p h)
+    (call_at p (position mode p h).call_state)
     (history_fits on_deed on_call agree mode n p h) refl
 
 pub posts_agree : (sem : ℕ) → Agree (is_post sem) (posts_to sem)

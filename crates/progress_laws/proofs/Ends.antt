@@ -21,14 +21,14 @@ use Rattle.inode_events.specs.declared.told.Told.{Told}
 use Rattle.inode_events.specs.declared.told.Told.TheVariants as told
 use Rattle.inode_events.specs.policy.declared.rule.Func.{Func}
 use Rattle.journal_laws.proofs.Stages.{Collects, stages}
-use Rattle.call_steps.specs.Mind.{Mind, Progress, Step, ask_of, plain_step, progress_of, step_by}
-use Rattle.call_steps.specs.Mind.{Nothing, Does, Checks, Signals, Appends}
+use Rattle.call_steps.specs.CallState.{CallState, Progress, Step, ask_of, plain_step, progress_of, step_by}
+use Rattle.call_steps.specs.CallState.{Nothing, Does, Checks, Signals, Appends}
 use Rattle.call_steps.specs.declared.ask.Ask.{Ask}
 use Rattle.call_steps.specs.declared.ask.Ask.TheVariants as ask
 use Rattle.call_steps.specs.declared.call.Call.{Call}
 use Rattle.call_steps.specs.declared.call.Call.TheVariants as call
 use Rattle.run_model.specs.Ended.{all_done, all_wait, is_done, is_stuck, left, posted, posts_to, waited, waits_in_vain}
-use Rattle.run_model.specs.History.{Thought, call_at, own_signals, step_at, step_in}
+use Rattle.run_model.specs.History.{Position, call_at, own_signals, step_at, step_in}
 use Rattle.run_model.specs.Rounds.{is_moved, moves}
 use Rattle.run_model.specs.Scene.{Program, Scene, ScriptFile, inode_of, mode_of}
 use Rattle.run_model.specs.Turns.{Moment, State, step_check, step_due, step_task, turn_of}
@@ -108,20 +108,21 @@ get_none (x ∷ xs) (suc k) h = let ih = get_none xs k h in omega arith
 
 -- ---- a task that doesn't move
 
-abbrev Ends : (ℕ → ℕ) → Program → Thought → Type 0
+abbrev Ends : (ℕ → ℕ) → Program → Position → Type 0
 Ends left_of p t =
     (is_done p t || waits_in_vain left_of (slice_get p.calls (length t.replies))) ≡ true
 
-wait_ends : (left_of : ℕ → ℕ) (p : Program) (t : Thought) (sem : ℕ) → length t.replies ≡ t.mind.at
-    → call_at p t.mind ≡ Some (call.Wait sem) → left_of sem ≡ 0 → Ends left_of p t
+wait_ends : (left_of : ℕ → ℕ) (p : Program) (t : Position) (sem : ℕ)
+    → length t.replies ≡ t.call_state.at
+    → call_at p t.call_state ≡ Some (call.Wait sem) → left_of sem ≡ 0 → Ends left_of p t
 wait_ends left_of p t sem even at none =
     or_right (is_done p t) (waits_in_vain left_of (slice_get p.calls (length t.replies)))
     (ap (λ (k : ℕ). waits_in_vain left_of (slice_get p.calls k)) even
     ∙ ap (waits_in_vain left_of) at ∙ eq-eqb (left_of sem) 0 none)
 
-signal_ends : (left_of : ℕ → ℕ) (p : Program) (t : Thought) (signals : List Event) (c : Call)
+signal_ends : (left_of : ℕ → ℕ) (p : Program) (t : Position) (signals : List Event) (c : Call)
     (d : Deed) → ((sem : ℕ) → left_of sem ≡ count_left sem signals)
-    → length t.replies ≡ t.mind.at → call_at p t.mind ≡ Some c → signal_of c ≡ Some d
+    → length t.replies ≡ t.call_state.at → call_at p t.call_state ≡ Some c → signal_of c ≡ Some d
     → is_moved (turn_of (semaphore_says signals d)) ≡ false → Ends left_of p t
 signal_ends left_of p t signals (call.Post sem) d l even at s h =
     let e : deed.Post sem ≡ d = same_Some (deed.Post sem) d s in
@@ -142,30 +143,30 @@ signal_ends left_of p t signals (call.Wait sem) d l even at s h =
           wait_ends left_of p t sem even at zero_left
 signal_ends left_of p t signals c d l even at s h = absurd (cc)
 
-done_ends : (left_of : ℕ → ℕ) (p : Program) (t : Thought) → length t.replies ≡ t.mind.at
-    → t.mind.at ≤ length p.calls → (o : Option Call) → call_at p t.mind ≡ o
-    → step_in p o t.mind ≡ None → Ends left_of p t
+done_ends : (left_of : ℕ → ℕ) (p : Program) (t : Position) → length t.replies ≡ t.call_state.at
+    → t.call_state.at ≤ length p.calls → (o : Option Call) → call_at p t.call_state ≡ o
+    → step_in p o t.call_state ≡ None → Ends left_of p t
 done_ends left_of p t even within (Some c) at e = absurd (cc)
 done_ends left_of p t even within None at e =
-    let over : length p.calls ≤ t.mind.at = get_none p.calls t.mind.at at in
+    let over : length p.calls ≤ t.call_state.at = get_none p.calls t.call_state.at at in
     let whole : length t.replies ≡ length p.calls = omega arith in
     or_left (is_done p t) (waits_in_vain left_of (slice_get p.calls (length t.replies)))
     (eq-eqb (length t.replies) (length p.calls) whole)
 
-signal_step : (left_of : ℕ → ℕ) (p : Program) (t : Thought) (signals : List Event) (d : Deed)
+signal_step : (left_of : ℕ → ℕ) (p : Program) (t : Position) (signals : List Event) (d : Deed)
     → ((sem : ℕ) → left_of sem ≡ count_left sem signals)
-    → length t.replies ≡ t.mind.at → (o : Option Call) → call_at p t.mind ≡ o
-    → step_in p o t.mind ≡ Some (Signals d)
+    → length t.replies ≡ t.call_state.at → (o : Option Call) → call_at p t.call_state ≡ o
+    → step_in p o t.call_state ≡ Some (Signals d)
     → is_moved (turn_of (semaphore_says signals d)) ≡ false → Ends left_of p t
 signal_step left_of p t signals d l even None at e h = absurd (cc)
 signal_step left_of p t signals d l even (Some c) at e h =
     let s : signal_of c ≡ Some d =
-    signal_call p.cred.admin c (progress_of p.cred.admin c t.mind)
-    (progress_of p.cred.admin c t.mind).due.ask d
-    (same_Some (ask_of p.cred.admin c t.mind) (Signals d) e) in
+    signal_call p.cred.admin c (progress_of p.cred.admin c t.call_state)
+    (progress_of p.cred.admin c t.call_state).due.ask d
+    (same_Some (ask_of p.cred.admin c t.call_state) (Signals d) e) in
     signal_ends left_of p t signals c d l even at s h
 
-check_moves : (scene : Scene) (n : ℕ) (p : Program) (s : State) (t : Thought) (i file : ℕ)
+check_moves : (scene : Scene) (n : ℕ) (p : Program) (s : State) (t : Position) (i file : ℕ)
     (func : Func) (mask : ℕ) (script_file : ScriptFile)
     → slice_get scene.script_files i ≡ Some script_file
     → is_moved (step_check scene n p s t i (slice_get scene.script_files i) file func mask).turn
@@ -175,16 +176,17 @@ check_moves scene n p s t i file func mask script_file e =
 
 task_ends : (scene : Scene) (m : Moment) (r : AtRest scene m) (left_of : ℕ → ℕ)
     → ((sem : ℕ) → left_of sem ≡ count_left sem (newest_first m.state.signals))
-    → (n : ℕ) (p : Program) (t : Thought) → length t.replies ≡ t.mind.at
-    → t.mind.at ≤ length p.calls → is_moved (step_task scene n p m.state t).turn ≡ false
-    → (o : Option Step) → step_at p t.mind ≡ o → MayStep scene m.state o
+    → (n : ℕ) (p : Program) (t : Position) → length t.replies ≡ t.call_state.at
+    → t.call_state.at ≤ length p.calls → is_moved (step_task scene n p m.state t).turn ≡ false
+    → (o : Option Step) → step_at p t.call_state ≡ o → MayStep scene m.state o
     → is_moved (step_due scene n p m.state t o).turn ≡ false → Ends left_of p t
 task_ends scene m r left_of l n p t even within whole None e may h =
-    done_ends left_of p t even within (call_at p t.mind) refl e
+    done_ends left_of p t even within (call_at p t.call_state) refl e
 task_ends scene m r left_of l n p t even within whole (Some Nothing) e may h = absurd (cc)
 task_ends scene m r left_of l n p t even within whole (Some (Appends rule)) e may h = absurd (cc)
 task_ends scene m r left_of l n p t even within whole (Some (Signals d)) e may h =
-    signal_step left_of p t (newest_first m.state.signals) d l even (call_at p t.mind) refl e h
+    signal_step left_of p t (newest_first m.state.signals) d l even (call_at p t.call_state) refl
+    e h
 task_ends scene m r left_of l n p t even within whole (Some (Checks i file func mask)) e may h =
     absurd (both_ways _ (check_moves scene n p m.state t i file func mask may.0 may.1) h)
 task_ends scene m r left_of l n p t even within whole (Some (Does i d)) e may h =
@@ -202,11 +204,11 @@ task_ends scene m r left_of l n p t even within whole (Some (Does i d)) e may h 
 
 -- ---- all tasks
 
-all_end : (left_of : ℕ → ℕ) (programs : List Program) (thoughts : List Thought)
-    → ((k : ℕ) (p : Program) (t : Thought) → slice_get programs k ≡ Some p
-    → slice_get thoughts k ≡ Some t → Ends left_of p t)
-    → all_wait left_of programs thoughts ≡ true
-all_end left_of [] thoughts each = refl
+all_end : (left_of : ℕ → ℕ) (programs : List Program) (positions : List Position)
+    → ((k : ℕ) (p : Program) (t : Position) → slice_get programs k ≡ Some p
+    → slice_get positions k ≡ Some t → Ends left_of p t)
+    → all_wait left_of programs positions ≡ true
+all_end left_of [] positions each = refl
 all_end left_of (p ∷ ps) [] each = refl
 all_end left_of (p ∷ ps) (t ∷ ts) each =
     and_from _ _ (each 0 p t refl refl) (all_end left_of ps ts (λ k. each (suc k)))
@@ -226,31 +228,32 @@ paid_when scene m r sem =
 pub ends : EndsAtRest
 ends scene m r = (
   paid_at,
-  through (all_done scene.programs m.thoughts)
-      (all_wait (λ sem. left sem scene.programs m.thoughts) scene.programs m.thoughts)
-      (all_end (λ sem. left sem scene.programs m.thoughts) scene.programs m.thoughts each),
+  through (all_done scene.programs m.positions)
+      (all_wait (λ sem. left sem scene.programs m.positions) scene.programs m.positions)
+      (all_end (λ sem. left sem scene.programs m.positions) scene.programs m.positions each),
 ) where
-  paid_at : (sem : ℕ) → waited sem scene.programs m.thoughts ≤ posted sem scene.programs m.thoughts
+  paid_at : (sem : ℕ)
+      → waited sem scene.programs m.positions ≤ posted sem scene.programs m.positions
   paid_at = paid_when scene m (record { legal = r.legal; tasks = r.tasks })
 
   left_is : (sem : ℕ)
-      → left sem scene.programs m.thoughts ≡ count_left sem (newest_first m.state.signals)
+      → left sem scene.programs m.positions ≡ count_left sem (newest_first m.state.signals)
   left_is sem =
       let both = counted scene m r sem in
       let same = count_past sem m.state.signals in
       omega (arith, both.0, both.1, same.0, same.1)
 
-  each : (k : ℕ) (p : Program) (t : Thought) → slice_get scene.programs k ≡ Some p
-      → slice_get m.thoughts k ≡ Some t → Ends (λ sem. left sem scene.programs m.thoughts) p t
+  each : (k : ℕ) (p : Program) (t : Position) → slice_get scene.programs k ≡ Some p
+      → slice_get m.positions k ≡ Some t → Ends (λ sem. left sem scene.programs m.positions) p t
   each k p t a b =
       let rest : Resting scene m.state k p t = r.tasks k p t a b in
       let fits : Fits (is_post 0) (posts_to 0) p t (own_signals (mode_of scene) k p rest.history) =
-      subst (λ (u : Thought). Fits (is_post 0) (posts_to 0) p u
+      subst (λ (u : Position). Fits (is_post 0) (posts_to 0) p u
       (own_signals (mode_of scene) k p rest.history)) rest.stands
       (history_fits (is_post 0) (posts_to 0) (posts_agree 0)
       (mode_of scene) k p rest.history) in
       let still : is_moved (step_task scene k p m.state t).turn ≡ false =
       sym (moves_is scene m k p t a b) ∙ r.still k (slice_get_within scene.programs k p a) in
       task_ends scene m r
-      (λ sem. left sem scene.programs m.thoughts) left_is k p t fits.even fits.within still
-      (step_at p t.mind) refl rest.may still
+      (λ sem. left sem scene.programs m.positions) left_is k p t fits.even fits.within still
+      (step_at p t.call_state) refl rest.may still

@@ -26,9 +26,9 @@ use Rattle.journal_laws.specs.Standing.{event_at}
 use Rattle.journal_laws.proofs.Bridge.{own_bridge}
 use Rattle.journal_laws.proofs.Owning.{stage_own}
 use Rattle.journal_laws.specs.Own.{counter, own_past}
-use Rattle.call_steps.specs.Mind.{Step}
-use Rattle.call_steps.specs.Mind.{Nothing, Does, Checks, Signals, Appends}
-use Rattle.run_model.specs.History.{Thought, own, step_at}
+use Rattle.call_steps.specs.CallState.{Step}
+use Rattle.call_steps.specs.CallState.{Nothing, Does, Checks, Signals, Appends}
+use Rattle.run_model.specs.History.{Position, own, step_at}
 use Rattle.run_model.specs.Rounds.{is_moved, moves, moves_at}
 use Rattle.run_model.specs.Scene.{Program, Scene, ScriptFile, inode_of, mode_of}
 use Rattle.run_model.specs.Turns.{Moment, State, journal_at, step_does, step_due, step_task, turn_of}
@@ -116,14 +116,14 @@ goes_told i p placed f c d e h = absurd e
 
 -- ---- turns
 
-pub moves_is : (scene : Scene) (m : Moment) (n : ℕ) (p : Program) (t : Thought)
-    → slice_get scene.programs n ≡ Some p → slice_get m.thoughts n ≡ Some t
+pub moves_is : (scene : Scene) (m : Moment) (n : ℕ) (p : Program) (t : Position)
+    → slice_get scene.programs n ≡ Some p → slice_get m.positions n ≡ Some t
     → moves scene m n ≡ is_moved (step_task scene n p m.state t).turn
 moves_is scene m n p t a b = (λ k. moves_at scene m n (a k) (b k))
 
-pub does_turn : (scene : Scene) (n : ℕ) (p : Program) (s : State) (t : Thought) (i : ℕ) (d : Deed)
+pub does_turn : (scene : Scene) (n : ℕ) (p : Program) (s : State) (t : Position) (i : ℕ) (d : Deed)
     (script_file : ScriptFile) (journal : List Event)
-    → step_at p t.mind ≡ Some (Does i d) → slice_get scene.script_files i ≡ Some script_file
+    → step_at p t.call_state ≡ Some (Does i d) → slice_get scene.script_files i ≡ Some script_file
     → slice_get s.journals i ≡ Some journal
     → is_moved (step_task scene n p s t).turn ≡ is_moved
     (turn_of (outcome (inode_of scene script_file) s.list d (newest_first journal)))
@@ -145,8 +145,8 @@ owner_moves : (scene : Scene) (m : Moment) (r : AtRest scene m) (i : ℕ) (scrip
     → ⊥
 owner_moves scene m r i script_file journal c k es ej h below collects =
     let pp = get_within scene.programs k below in
-    let even : length m.thoughts ≡ length scene.programs = r.legal.thoughts_even in
-    let tt' = get_within m.thoughts k (omega arith) in
+    let even : length m.positions ≡ length scene.programs = r.legal.positions_even in
+    let tt' = get_within m.positions k (omega arith) in
     let rest : Resting scene m.state k pp.0 tt'.0 = r.tasks k pp.0 tt'.0 pp.1 tt'.1 in
     let path : own_past (k + 1) (newest_first journal)
     ≡ reverse (own (mode_of scene) k pp.0 i rest.history) =
@@ -158,8 +158,8 @@ owner_moves scene m r i script_file journal c k es ej h below collects =
     let g0 = busy_goes (inode_of scene script_file)
     (mode_of scene) k pp.0 rest.history i journal c.file
     (r.legal.follows i script_file journal es ej).0 (rest.events i journal ej) mine in
-    let g : (d : Deed) × (step_at pp.0 tt'.0.mind ≡ Some (Does i d)) × GoesOn c.file d =
-    subst (λ (u : Thought). (d : Deed) × (step_at pp.0 u.mind ≡ Some (Does i d))
+    let g : (d : Deed) × (step_at pp.0 tt'.0.call_state ≡ Some (Does i d)) × GoesOn c.file d =
+    subst (λ (u : Position). (d : Deed) × (step_at pp.0 u.call_state ≡ Some (Does i d))
     × GoesOn c.file d) rest.stands g0 in
     let told = goes_told (inode_of scene script_file) (newest_first journal)
     (placed_for m.state.list (asked (inode_of scene script_file) g.0

@@ -14,8 +14,8 @@ use Rattle.inode_events.specs.declared.told.Event.{Event}
 use Rattle.inode_events.specs.declared.told.Told.{Told}
 use Rattle.inode_events.specs.declared.told.Told.TheVariants as told
 use Rattle.call_steps.specs.Handles.{name_made}
-use Rattle.call_steps.specs.Mind.{Mind, Progress, Step, ask_of, begun, deed_of, file_after, handle_made, handles_after, handles_left, is_done, moved, plain_step, progress_of, step_by}
-use Rattle.call_steps.specs.Mind.{Nothing, Does, Checks, Signals, Appends}
+use Rattle.call_steps.specs.CallState.{CallState, Progress, Step, ask_of, begun, deed_of, file_after, handle_made, handles_after, handles_left, is_done, moved, plain_step, progress_of, step_by}
+use Rattle.call_steps.specs.CallState.{Nothing, Does, Checks, Signals, Appends}
 use Rattle.call_steps.specs.Handles.{name_ended}
 use Rattle.call_steps.specs.Steps.{course_of, next, next_by, reply_of}
 use Rattle.call_steps.specs.declared.ask.Ask.{Ask}
@@ -26,7 +26,7 @@ use Rattle.call_steps.specs.declared.held.Handle.{Handle}
 use Rattle.call_steps.specs.declared.held.Name.{Name}
 use Rattle.call_steps.specs.declared.reply.Reply.{Reply}
 use Rattle.call_steps.specs.declared.reply.Reply.TheVariants as reply
-use Rattle.run_model.specs.History.{Answer, Thought, call_at, event, event_in, hear_in, own, step_in, thought, who_at}
+use Rattle.run_model.specs.History.{Answer, Position, call_at, event, event_in, own, position, resume_in, step_in, who_at}
 use Rattle.run_model.specs.Scene.{Program}
 use Rattle.progress_laws.specs.NextSteps.{IsFit}
 use Rattle.progress_laws.proofs.Busy.{after_step, life_step, same_more}
@@ -181,17 +181,18 @@ module _ (inode : Inode) (admin : Bool) (c : Call) (fit : IsFit c) (r : Reply) (
 
 -- ---- a history
 
-abbrev pub FitsIn : Program → Mind → ℕ → (ℕ → Stage) → (ℕ → Option How) → Option Progress → Type 0
+abbrev pub FitsIn : Program → CallState → ℕ → (ℕ → Stage) → (ℕ → Option How) → Option Progress
+    → Type 0
 FitsIn p m i L W None = Each (Strong i L W) m.handles
 FitsIn p m i L W (Some g) =
     (c : Call) → call_at p m ≡ Some c
     → Ready c g.due.ask g.due.reply g.inode g.file g.how m.handles i L W
 
-abbrev pub Fits : Program → Mind → ℕ → (ℕ → Stage) → (ℕ → Option How) → Type 0
+abbrev pub Fits : Program → CallState → ℕ → (ℕ → Stage) → (ℕ → Option How) → Type 0
 Fits p m i L W = FitsIn p m i L W m.progress
 
-pub ready_now : (p : Program) (m : Mind) (i : ℕ) (L : ℕ → Stage) (W : ℕ → Option How) (c : Call)
-    → call_at p m ≡ Some c → Fits p m i L W
+pub ready_now : (p : Program) (m : CallState) (i : ℕ) (L : ℕ → Stage) (W : ℕ → Option How)
+    (c : Call) → call_at p m ≡ Some c → Fits p m i L W
     → (λ (g : Progress). Ready c g.due.ask g.due.reply g.inode g.file g.how m.handles i L W)
     (progress_of p.cred.admin c m)
 ready_now p m i L W c e f = at m.progress f where
@@ -212,7 +213,7 @@ left_same c g r hs =
     ap (λ (x : List Handle). cond (is_done r) (handles_left (name_ended c) hs ++ x) hs)
     (made_same g r (name_made c))
 
-moved_fits : (p : Program) (m : Mind) (c : Call) (g : Progress) (place i : ℕ) (L : ℕ → Stage)
+moved_fits : (p : Program) (m : CallState) (c : Call) (g : Progress) (place i : ℕ) (L : ℕ → Stage)
     (W : ℕ → Option How) (x : Next) → call_at p m ≡ Some c
     → NextTo c g.inode g.file (file_after g.due.ask place g.file) g.how m.handles i L W x
     → Fits p (moved c m g place x).0 i L W
@@ -288,45 +289,46 @@ good_step i who (Checks j file func mask) a xs g = (
 good_step i who (Signals d) a xs g = (good_nil xs g, tt)
 good_step i who (Appends rule) a xs g = (good_nil xs g, tt)
 
-fits_call : (inode : Inode) (p : Program) (t : Thought) (a : Answer) (who : Who) (i : ℕ)
-    (xs : List (ℕ × Event)) (o : Option Call) → call_at p t.mind ≡ o
+fits_call : (inode : Inode) (p : Program) (t : Position) (a : Answer) (who : Who) (i : ℕ)
+    (xs : List (ℕ × Event)) (o : Option Call) → call_at p t.call_state ≡ o
     → ((c : Call) → o ≡ Some c → IsFit c) → AreGood
-    (reverse (xs ++ event_in i who (step_in p o t.mind) a))
-    → (AreGood (reverse xs) → Fits p t.mind i (lives inode xs) (hows_in xs))
-    → Fits p (hear_in inode.settings.mode p o t a).mind i
-    (lives inode (xs ++ event_in i who (step_in p o t.mind) a))
-    (hows_in (xs ++ event_in i who (step_in p o t.mind) a))
+    (reverse (xs ++ event_in i who (step_in p o t.call_state) a))
+    → (AreGood (reverse xs) → Fits p t.call_state i (lives inode xs) (hows_in xs))
+    → Fits p (resume_in inode.settings.mode p o t a).call_state i
+    (lives inode (xs ++ event_in i who (step_in p o t.call_state) a))
+    (hows_in (xs ++ event_in i who (step_in p o t.call_state) a))
 fits_call inode p t a who i xs None at fit good ih =
-    subst (λ (l : List (ℕ × Event)). Fits p t.mind i (lives inode l) (hows_in l))
+    subst (λ (l : List (ℕ × Event)). Fits p t.call_state i (lives inode l) (hows_in l))
     (sym (append-nil xs)) (ih (good_nil xs good))
 fits_call inode p t a who i xs (Some c) at fit good ih =
-    let g : Progress = progress_of p.cred.admin c t.mind in
-    let y = good_step i who (ask_of p.cred.admin c t.mind) a xs good in
-    subst (λ (L : ℕ → Stage). Fits p (hear_in inode.settings.mode p (Some c) t a).mind i L
-    (hows_in (xs ++ event_in i who (Some (ask_of p.cred.admin c t.mind)) a)))
-    (λ k f. sym (life_step inode i f who (ask_of p.cred.admin c t.mind) a xs) k)
-    (subst (λ (W : ℕ → Option How). Fits p (hear_in inode.settings.mode p (Some c) t a).mind i
-    (λ f. after_step inode i f (ask_of p.cred.admin c t.mind) a (lives inode xs f)) W)
-    (λ k f. sym (how_moved i f who (ask_of p.cred.admin c t.mind) a xs) k)
-    (moved_fits p t.mind c (progress_of p.cred.admin c t.mind) a.place i
-    (λ f. after_step inode i f (ask_of p.cred.admin c t.mind) a (lives inode xs f))
-    (λ f. how_step i f (ask_of p.cred.admin c t.mind) a (hows_in xs f))
-    (next inode.settings.mode c (progress_of p.cred.admin c t.mind).due a.told a.action) at
-    (keeps inode p.cred.admin c (fit c refl) (progress_of p.cred.admin c t.mind).due.reply
-    (progress_of p.cred.admin c t.mind).step (progress_of p.cred.admin c t.mind).inode
-    (progress_of p.cred.admin c t.mind).file
-    (progress_of p.cred.admin c t.mind).how t.mind.handles i (lives inode xs) (hows_in xs) a.place
-    (progress_of p.cred.admin c t.mind).due.ask a.told a.action a.rules
-    (ready_now p t.mind i (lives inode xs) (hows_in xs) c at (ih y.0)) y.1)))
+    let g : Progress = progress_of p.cred.admin c t.call_state in
+    let y = good_step i who (ask_of p.cred.admin c t.call_state) a xs good in
+    subst (λ (L : ℕ → Stage). Fits p (resume_in inode.settings.mode p (Some c) t a).call_state i L
+    (hows_in (xs ++ event_in i who (Some (ask_of p.cred.admin c t.call_state)) a)))
+    (λ k f. sym (life_step inode i f who (ask_of p.cred.admin c t.call_state) a xs) k)
+    (subst (λ (W : ℕ → Option How). Fits p
+    (resume_in inode.settings.mode p (Some c) t a).call_state i
+    (λ f. after_step inode i f (ask_of p.cred.admin c t.call_state) a (lives inode xs f)) W)
+    (λ k f. sym (how_moved i f who (ask_of p.cred.admin c t.call_state) a xs) k)
+    (moved_fits p t.call_state c (progress_of p.cred.admin c t.call_state) a.place i
+    (λ f. after_step inode i f (ask_of p.cred.admin c t.call_state) a (lives inode xs f))
+    (λ f. how_step i f (ask_of p.cred.admin c t.call_state) a (hows_in xs f))
+    (next inode.settings.mode c (progress_of p.cred.admin c t.call_state).due a.told a.action) at
+    (keeps inode p.cred.admin c (fit c refl) (progress_of p.cred.admin c t.call_state).due.reply
+    (progress_of p.cred.admin c t.call_state).step (progress_of p.cred.admin c t.call_state).inode
+    (progress_of p.cred.admin c t.call_state).file
+    (progress_of p.cred.admin c t.call_state).how t.call_state.handles i (lives inode xs)
+    (hows_in xs) a.place (progress_of p.cred.admin c t.call_state).due.ask a.told a.action a.rules
+    (ready_now p t.call_state i (lives inode xs) (hows_in xs) c at (ih y.0)) y.1)))
 
 pub fits_history : (inode : Inode) (n : ℕ) (p : Program) (i : ℕ)
     → ((k : ℕ) (c : Call) → slice_get p.calls k ≡ Some c → IsFit c) → (h : List Answer)
     → AreGood (reverse (own inode.settings.mode n p i h))
-    → Fits p (thought inode.settings.mode p h).mind i
+    → Fits p (position inode.settings.mode p h).call_state i
     (lives inode (own inode.settings.mode n p i h)) (hows_in (own inode.settings.mode n p i h))
 fits_history inode n p i fit [] good = tt
 fits_history inode n p i fit (a ∷ h) good =
-    fits_call inode p (thought inode.settings.mode p h) a
-    (who_at n p (thought inode.settings.mode p h).mind) i (own inode.settings.mode n p i h)
-    (call_at p (thought inode.settings.mode p h).mind) refl
-    (fit (thought inode.settings.mode p h).mind.at) good (fits_history inode n p i fit h)
+    fits_call inode p (position inode.settings.mode p h) a
+    (who_at n p (position inode.settings.mode p h).call_state) i (own inode.settings.mode n p i h)
+    (call_at p (position inode.settings.mode p h).call_state) refl
+    (fit (position inode.settings.mode p h).call_state.at) good (fits_history inode n p i fit h)

@@ -7,7 +7,7 @@ use Rattle.inode_events.specs.Legal.{EachFollows, May}
 use Rattle.inode_events.specs.NewestFirst.{newest_first}
 use Rattle.inode_events.specs.declared.deed.How.{How}
 use Rattle.inode_events.specs.declared.told.Event.{Event}
-use Rattle.call_steps.specs.Mind.{Mind, deed_of, plain_step, progress_of, step_by}
+use Rattle.call_steps.specs.CallState.{CallState, deed_of, plain_step, progress_of, step_by}
 use Rattle.call_steps.specs.declared.ask.Ask.{Ask}
 use Rattle.call_steps.specs.declared.ask.Ask.TheVariants as ask
 use Rattle.call_steps.specs.declared.call.Call.{Call}
@@ -17,7 +17,7 @@ use Rattle.call_steps.specs.declared.reply.Reply.{Reply}
 use Rattle.journal_laws.specs.Own.{IsOwned, own_past}
 use Rattle.journal_laws.proofs.Bridge.{own_bridge}
 use Rattle.journal_laws.proofs.Owning.{stage_own}
-use Rattle.run_model.specs.History.{call_at, own, step_in, thought}
+use Rattle.run_model.specs.History.{call_at, own, position, step_in}
 use Rattle.run_model.specs.Scene.{Program}
 use Rattle.progress_laws.specs.NextSteps.{IsFit, MayMake, NextMay}
 use Rattle.progress_laws.proofs.Ready.{At, IsAttr, IsWrite, Mine, Ready, mk}
@@ -99,7 +99,7 @@ module _ (inode : Inode) (n : ℕ) (p : List Event) (legal : EachFollows inode p
     may_make ask.CloseFinish a = stands CloseCollected a.0 a.2
     may_make ask.Plain a = plain_may c admin
 
-  may_call : (prog : Program) (m : Mind) (i : ℕ) (o : Option Call) → call_at prog m ≡ o
+  may_call : (prog : Program) (m : CallState) (i : ℕ) (o : Option Call) → call_at prog m ≡ o
       → ((c : Call) → o ≡ Some c → IsFit c) → Fits prog m i Lives Hows
       → MayMake inode i p (step_in prog o m)
   may_call prog m i None e fit f = tt
@@ -115,9 +115,10 @@ next_step_may inode n p h i journal fit legal owned owns =
     let same : own_past (n + 1) (newest_first journal) ≡ reverse (own inode.settings.mode n p i h) =
     own_bridge (n + 1) journal ∙ ap reverse owns in
     may_call inode (n + 1) (newest_first journal) legal owned p
-    (thought inode.settings.mode p h).mind i (call_at p (thought inode.settings.mode p h).mind) refl
-    (fit (thought inode.settings.mode p h).mind.at)
-    (subst (λ (xs : List (ℕ × Event)). Fits p (thought inode.settings.mode p h).mind i
+    (position inode.settings.mode p h).call_state i
+    (call_at p (position inode.settings.mode p h).call_state) refl
+    (fit (position inode.settings.mode p h).call_state.at)
+    (subst (λ (xs : List (ℕ × Event)). Fits p (position inode.settings.mode p h).call_state i
     (λ f. stage_in inode f xs) (λ f. how_in f xs))
     (sym (own_bridge (n + 1) journal ∙ ap reverse owns))
     (fits_history inode n p i fit h (subst AreGood (own_bridge (n + 1) journal ∙ ap reverse owns)

@@ -9,8 +9,8 @@ use Rattle.inode_events.specs.declared.deed.How.{How}
 use Rattle.inode_events.specs.declared.told.Event.{Event}
 use Rattle.inode_events.specs.declared.told.Told.{Told}
 use Rattle.call_steps.specs.Handles.{handle_of, held_by, is_free}
-use Rattle.call_steps.specs.Mind.{Mind, Progress, Step, begun, file_of, how_held, inode_of, is_done, moved, plain_step, progress_of, step_by}
-use Rattle.call_steps.specs.Mind.{Nothing, Does, Checks, Signals, Appends}
+use Rattle.call_steps.specs.CallState.{CallState, Progress, Step, begun, file_of, how_held, inode_of, is_done, moved, plain_step, progress_of, step_by}
+use Rattle.call_steps.specs.CallState.{Nothing, Does, Checks, Signals, Appends}
 use Rattle.call_steps.specs.Steps.{course_of, first, next, next_by}
 use Rattle.call_steps.specs.declared.ask.Ask.{Ask}
 use Rattle.call_steps.specs.declared.ask.Ask.TheVariants as ask
@@ -21,7 +21,7 @@ use Rattle.call_steps.specs.declared.held.Handle.{Handle}
 use Rattle.call_steps.specs.declared.held.Name.{Name}
 use Rattle.call_steps.specs.declared.held.Name.TheVariants as name
 use Rattle.call_steps.specs.declared.reply.Reply.{Reply}
-use Rattle.run_model.specs.History.{Answer, Thought, call_at, hear_in, step_at, step_in, thought}
+use Rattle.run_model.specs.History.{Answer, Position, call_at, position, resume_in, step_at, step_in}
 use Rattle.run_model.specs.Scene.{Program, Scene, ScriptFile, mode_of}
 use Rattle.run_model.specs.Scene.{inode_of as inode_at}
 use Rattle.run_model.specs.Turns.{State}
@@ -138,14 +138,15 @@ module _ (count : ℕ) (admin : Bool) (hs : List Handle) (s : Each (InRange coun
 
 -- ---- along a history
 
-abbrev FitsIn : ℕ → Program → Mind → Option Progress → Type 0
+abbrev FitsIn : ℕ → Program → CallState → Option Progress → Type 0
 FitsIn count p m None = Each (InRange count) m.handles
 FitsIn count p m (Some g) = (g.inode < count) × Each (InRange count) m.handles
 
-abbrev RangeFits : ℕ → Program → Mind → Type 0
+abbrev RangeFits : ℕ → Program → CallState → Type 0
 RangeFits count p m = FitsIn count p m m.progress
 
-range_now : (count : ℕ) (p : Program) (m : Mind) (c : Call) → IsWithin count c → RangeFits count p m
+range_now : (count : ℕ) (p : Program) (m : CallState) (c : Call) → IsWithin count c
+    → RangeFits count p m
     → (λ (g : Progress). Ranged count c g.due.ask g.due.reply g.inode g.file g.how m.handles)
     (progress_of p.cred.admin c m)
 range_now count p m c w f = at m.progress f where
@@ -155,7 +156,8 @@ range_now count p m c w f = at m.progress f where
   at None s = begins_in count p.cred.admin m.handles s c w
   at (Some g) s = inr s
 
-range_moved : (count : ℕ) (p : Program) (m : Mind) (c : Call) (g : Progress) (place : ℕ) (x : Next)
+range_moved : (count : ℕ) (p : Program) (m : CallState) (c : Call) (g : Progress) (place : ℕ)
+    (x : Next)
     → g.inode < count → Each (InRange count) m.handles → RangeFits count p (moved c m g place x).0
 range_moved count p m c g place (On plan) l s = (l, s)
 range_moved count p m c g place (Over r) l s =
@@ -180,7 +182,7 @@ plain_over mode c ask.CloseTake r t action e = absurd (cc)
 plain_over mode c ask.CloseChunk r t action e = absurd (cc)
 plain_over mode c ask.CloseFinish r t action e = absurd (cc)
 
-range_step : (count : ℕ) (mode : Mode) (p : Program) (m : Mind) (c : Call) (g : Progress)
+range_step : (count : ℕ) (mode : Mode) (p : Program) (m : CallState) (c : Call) (g : Progress)
     (place : ℕ) (t : Told) (action : Action)
     → Ranged count c g.due.ask g.due.reply g.inode g.file g.how m.handles
     → RangeFits count p (moved c m g place (next mode c g.due t action)).0
@@ -191,21 +193,21 @@ range_step count mode p m c g place t action (inl (e, s)) =
 range_step count mode p m c g place t action (inr (l, s)) =
     range_moved count p m c g place (next mode c g.due t action) l s
 
-range_call : (count : ℕ) (mode : Mode) (p : Program) (t : Thought) (a : Answer) (o : Option Call)
-    → ((c : Call) → o ≡ Some c → IsWithin count c) → RangeFits count p t.mind
-    → RangeFits count p (hear_in mode p o t a).mind
+range_call : (count : ℕ) (mode : Mode) (p : Program) (t : Position) (a : Answer) (o : Option Call)
+    → ((c : Call) → o ≡ Some c → IsWithin count c) → RangeFits count p t.call_state
+    → RangeFits count p (resume_in mode p o t a).call_state
 range_call count mode p t a None w f = f
 range_call count mode p t a (Some c) w f =
-    range_step count mode p t.mind c (progress_of p.cred.admin c t.mind) a.place a.told a.action
-    (range_now count p t.mind c (w c refl) f)
+    range_step count mode p t.call_state c (progress_of p.cred.admin c t.call_state) a.place
+    a.told a.action (range_now count p t.call_state c (w c refl) f)
 
 range_history : (count : ℕ) (mode : Mode) (p : Program)
     → ((k : ℕ) (c : Call) → slice_get p.calls k ≡ Some c → IsWithin count c) → (h : List Answer)
-    → RangeFits count p (thought mode p h).mind
+    → RangeFits count p (position mode p h).call_state
 range_history count mode p w [] = tt
 range_history count mode p w (a ∷ h) =
-    range_call count mode p (thought mode p h) a (call_at p (thought mode p h).mind)
-    (w (thought mode p h).mind.at) (range_history count mode p w h)
+    range_call count mode p (position mode p h) a (call_at p (position mode p h).call_state)
+    (w (position mode p h).call_state.at) (range_history count mode p w h)
 
 abbrev StepWithin : ℕ → Option Step → Type 0
 StepWithin count (Some (Does j d)) = j < count
@@ -249,7 +251,7 @@ step_within count admin c ask.CloseTake r step gi gf hw hs f = (inside f).0
 step_within count admin c ask.CloseChunk r step gi gf hw hs f = (inside f).0
 step_within count admin c ask.CloseFinish r step gi gf hw hs f = (inside f).0
 
-call_within : (count : ℕ) (p : Program) (m : Mind) (o : Option Call)
+call_within : (count : ℕ) (p : Program) (m : CallState) (o : Option Call)
     → ((c : Call) → o ≡ Some c → IsWithin count c) → RangeFits count p m
     → StepWithin count (step_in p o m)
 call_within count p m None w f = tt
@@ -286,10 +288,10 @@ scene_may scene s (Some (Appends rule)) even w f = tt
 
 pub all_steps_may : StepsMay
 all_steps_may scene s n p h fit even legal owns =
-    scene_may scene s (step_at p (thought (mode_of scene) p h).mind) even
-    (call_within (length scene.script_files) p (thought (mode_of scene) p h).mind
-    (call_at p (thought (mode_of scene) p h).mind)
-    (λ c e. (fit (thought (mode_of scene) p h).mind.at c e).1)
+    scene_may scene s (step_at p (position (mode_of scene) p h).call_state) even
+    (call_within (length scene.script_files) p (position (mode_of scene) p h).call_state
+    (call_at p (position (mode_of scene) p h).call_state)
+    (λ c e. (fit (position (mode_of scene) p h).call_state.at c e).1)
     (range_history (length scene.script_files) (mode_of scene) p (λ k c e. (fit k c e).1) h))
     (λ i script_file journal a b. next_step_may (inode_at scene script_file) n p h i journal
     (λ k c e. (fit k c e).0) (legal i script_file journal a b).0 (legal i script_file journal a b).1

@@ -6,7 +6,7 @@ use Rattle.std.proofs.lemmas.Bool.{eqb-true, eq-eqb, cond-true}
 use Rattle.inode_events.specs.Files.{can_read, is_writer}
 use Rattle.inode_events.specs.declared.deed.How.{How}
 use Rattle.call_steps.specs.Handles.{without}
-use Rattle.call_steps.specs.Mind.{Progress, handle_made, handles_after, handles_left, is_done}
+use Rattle.call_steps.specs.CallState.{Progress, handle_made, handles_after, handles_left, is_done}
 use Rattle.call_steps.specs.Handles.{name_ended, name_made, same_name}
 use Rattle.call_steps.specs.Steps.{course_of, how_of}
 use Rattle.call_steps.specs.declared.ask.Ask.{Ask}

@@ -18,17 +18,17 @@ use Rattle.inode_events.specs.declared.deed.Deed.{Deed}
 use Rattle.inode_events.specs.declared.deed.Deed.TheVariants as deed
 use Rattle.inode_events.specs.declared.told.Event.{Event}
 use Rattle.inode_events.specs.declared.told.Told.{Told}
-use Rattle.call_steps.specs.Mind.{Step}
-use Rattle.call_steps.specs.Mind.{Nothing, Does, Checks, Signals, Appends}
-use Rattle.run_model.specs.History.{Thought, step_at, who_at}
+use Rattle.call_steps.specs.CallState.{Step}
+use Rattle.call_steps.specs.CallState.{Nothing, Does, Checks, Signals, Appends}
+use Rattle.run_model.specs.History.{Position, step_at, who_at}
 use Rattle.run_model.specs.Rounds.{any_moves, is_moved, moves, moves_at, numbers}
 use Rattle.run_model.specs.Scene.{Program, Scene, ScriptFile, decided, inode_of, mode_of, rules_with}
-use Rattle.run_model.specs.Turns.{Moment, State, Turned, hear_told, journal_at, state_on, step_check, step_does, step_due, step_event, step_signal, step_task, turn, turn_of, turned}
+use Rattle.run_model.specs.Turns.{Moment, State, Turned, journal_at, resume_told, state_on, step_check, step_does, step_due, step_event, step_signal, step_task, turn, turn_of, turned}
 use Rattle.progress_laws.specs.Resting.{RoundAtRest}
 use Rattle.list_lemmas.proofs.Containing.{has_cases, has_none}
 
-abbrev IsSame : State → Thought → Turned → Type 0
-IsSame s t x = (x.state ≡ s) × (x.thought ≡ t)
+abbrev IsSame : State → Position → Turned → Type 0
+IsSame s t x = (x.state ≡ s) × (x.position ≡ t)
 
 list_same : (list : List Entry) (o : Option Entry) → list_after list o None ≡ list
 list_same list None = refl
@@ -37,11 +37,11 @@ list_same list (Some e) = refl
 journals_same : (js : List (List Event)) (i : ℕ) → slice_set js i (get_or js i [] ++ []) ≡ js
 journals_same js i = ap (slice_set js i) (append-nil (get_or js i [])) ∙ set-get_or js i []
 
-event_same : (scene : Scene) (n : ℕ) (p : Program) (s : State) (t : Thought) (i : ℕ)
+event_same : (scene : Scene) (n : ℕ) (p : Program) (s : State) (t : Position) (i : ℕ)
     (inode : Inode) (d : Deed) (action : Action) (rules : ℕ) (o : Option Told)
     → is_moved (turn_of o) ≡ false
-    → (state_on s i inode (who_at n p t.mind) d o ≡ s)
-    × (hear_told (mode_of scene) p t (length (journal_at s i)) action rules o ≡ t)
+    → (state_on s i inode (who_at n p t.call_state) d o ≡ s)
+    × (resume_told (mode_of scene) p t (length (journal_at s i)) action rules o ≡ t)
 event_same scene n p s t i inode d action rules (Some x) h = cc
 event_same scene n p s t i inode d action rules None h =
     let a : slice_set s.journals i (journal_at s i ++ []) ≡ s.journals =
@@ -50,7 +50,7 @@ event_same scene n p s t i inode d action rules None h =
     list_same s.list (asked inode d (newest_first (journal_at s i))) in
     ((λ k. record s { journals = a k; list = b k }), refl)
 
-does_same : (scene : Scene) (n : ℕ) (p : Program) (s : State) (t : Thought) (i : ℕ)
+does_same : (scene : Scene) (n : ℕ) (p : Program) (s : State) (t : Position) (i : ℕ)
     (o : Option ScriptFile) (d : Deed) → is_moved (step_does scene n p s t i o d).turn ≡ false
     → IsSame s t (step_does scene n p s t i o d)
 does_same scene n p s t i None d h = (refl, refl)
@@ -58,7 +58,7 @@ does_same scene n p s t i (Some script_file) d h =
     event_same scene n p s t i (inode_of scene script_file) d _ 0
     (outcome (inode_of scene script_file) s.list d (newest_first (journal_at s i))) h
 
-check_same : (scene : Scene) (n : ℕ) (p : Program) (s : State) (t : Thought) (i : ℕ)
+check_same : (scene : Scene) (n : ℕ) (p : Program) (s : State) (t : Position) (i : ℕ)
     (o : Option ScriptFile) (file : ℕ) (func : Func) (mask : ℕ)
     → is_moved (step_check scene n p s t i o file func mask).turn ≡ false
     → IsSame s t (step_check scene n p s t i o file func mask)
@@ -74,13 +74,13 @@ check_same scene n p s t i (Some script_file) file func mask h =
     (length (rules_with scene s.added)) (outcome (inode_of scene script_file) s.list d
     (newest_first (journal_at s i))) h
 
-signal_same : (scene : Scene) (n : ℕ) (p : Program) (s : State) (t : Thought) (d : Deed)
+signal_same : (scene : Scene) (n : ℕ) (p : Program) (s : State) (t : Position) (d : Deed)
     (o : Option Told) → is_moved (turn_of o) ≡ false → IsSame s t (step_signal scene n p s t d o)
 signal_same scene n p s t d (Some x) h = cc
 signal_same scene n p s t d None h = let a : s.signals ++ [] ≡ s.signals =
     append-nil s.signals in ((λ k. record s { signals = a k }), refl)
 
-step_same : (scene : Scene) (n : ℕ) (p : Program) (s : State) (t : Thought) (o : Option Step)
+step_same : (scene : Scene) (n : ℕ) (p : Program) (s : State) (t : Position) (o : Option Step)
     → is_moved (step_due scene n p s t o).turn ≡ false → IsSame s t (step_due scene n p s t o)
 step_same scene n p s t None h = (refl, refl)
 step_same scene n p s t (Some Nothing) h = cc
@@ -96,20 +96,20 @@ set_same : {A : Type 0} (xs : List A) (k : ℕ) (x : A) → slice_get xs k ≡ S
     → slice_set xs k x ≡ xs
 set_same xs k x h = ap (slice_set xs k) (sym (get_or_from_slice_get xs k x x h)) ∙ set-get_or xs k x
 
-turned_same : (scene : Scene) (m : Moment) (n : ℕ) (o : Option Program) (q : Option Thought)
-    → slice_get m.thoughts n ≡ q → moves_at scene m n o q ≡ false → turned scene m n o q ≡ m
+turned_same : (scene : Scene) (m : Moment) (n : ℕ) (o : Option Program) (q : Option Position)
+    → slice_get m.positions n ≡ q → moves_at scene m n o q ≡ false → turned scene m n o q ≡ m
 turned_same scene m n None q e h = refl
 turned_same scene m n (Some p) None e h = refl
 turned_same scene m n (Some p) (Some t) e h =
     let same : IsSame m.state t (step_task scene n p m.state t) =
-    step_same scene n p m.state t (step_at p t.mind) h in
-    let thoughts : slice_set m.thoughts n (step_task scene n p m.state t).thought ≡ m.thoughts =
-    ap (slice_set m.thoughts n) same.1 ∙ set_same m.thoughts n t e in
-    (λ k. record { state = same.0 k; thoughts = thoughts k })
+    step_same scene n p m.state t (step_at p t.call_state) h in
+    let positions : slice_set m.positions n (step_task scene n p m.state t).position ≡ m.positions =
+    ap (slice_set m.positions n) same.1 ∙ set_same m.positions n t e in
+    (λ k. record { state = same.0 k; positions = positions k })
 
 turn_same : (scene : Scene) (m : Moment) (n : ℕ) → moves scene m n ≡ false → turn scene m n ≡ m
 turn_same scene m n h =
-    turned_same scene m n (slice_get scene.programs n) (slice_get m.thoughts n) refl h
+    turned_same scene m n (slice_get scene.programs n) (slice_get m.positions n) refl h
 
 none_moves : (scene : Scene) (m : Moment) (ns : List ℕ) → any_moves scene m ns ≡ false → (n : ℕ)
     → Contains ns n → moves scene m n ≡ false

@@ -18,7 +18,7 @@ use Rattle.inode_events.specs.declared.deed.How.{How}
 use Rattle.inode_events.specs.declared.told.Grant.{Grant}
 use Rattle.inode_events.specs.declared.told.Told.{Told}
 use Rattle.inode_events.specs.declared.told.Told.TheVariants as told
-use Rattle.call_steps.specs.Mind.{is_done}
+use Rattle.call_steps.specs.CallState.{is_done}
 use Rattle.call_steps.specs.Steps.{course_of, admitted, check, close, granted, has_read, how_of, next_by, refused, refused_by, reply_of, take}
 use Rattle.call_steps.specs.declared.ask.Ask.{Ask}
 use Rattle.call_steps.specs.declared.ask.Ask.TheVariants as ask

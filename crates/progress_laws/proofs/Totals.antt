@@ -15,7 +15,7 @@ use Rattle.inode_events.specs.declared.told.Told.{Told}
 use Rattle.inode_events.specs.declared.told.Told.TheVariants as told
 use Rattle.call_steps.specs.declared.call.Call.{Call}
 use Rattle.run_model.specs.Ended.{answered, answered_by, how_many, posted, posts_to, waited, waits_for}
-use Rattle.run_model.specs.History.{Answer, Thought, own_signals, thought}
+use Rattle.run_model.specs.History.{Answer, Position, own_signals, position}
 use Rattle.run_model.specs.Served.{events_of}
 use Rattle.run_model.specs.Scene.{Program, Scene, mode_of}
 use Rattle.run_model.specs.Turns.{Moment, State}
@@ -131,12 +131,12 @@ tally_total on_deed count (e ∷ es) s =
 
 -- ---- over all tasks
 
-answered_total : (test : Call → Bool) (programs : List Program) (thoughts : List Thought)
-    (f : ℕ → ℕ) → length thoughts ≡ length programs
-    → ((k : ℕ) (p : Program) (t : Thought) → slice_get programs k ≡ Some p
-    → slice_get thoughts k ≡ Some t → how_many test (answered p t) ≡ f k)
-    → answered_by test programs thoughts ≡ totals f (length programs)
-answered_total test [] thoughts f even each = refl
+answered_total : (test : Call → Bool) (programs : List Program) (positions : List Position)
+    (f : ℕ → ℕ) → length positions ≡ length programs
+    → ((k : ℕ) (p : Program) (t : Position) → slice_get programs k ≡ Some p
+    → slice_get positions k ≡ Some t → how_many test (answered p t) ≡ f k)
+    → answered_by test programs positions ≡ totals f (length programs)
+answered_total test [] positions f even each = refl
 answered_total test (p ∷ ps) [] f even each = absurd (omega arith)
 answered_total test (p ∷ ps) (t ∷ ts) f even each =
     let here : how_many test (answered p t) ≡ f 0 = each 0 p t refl refl in
@@ -147,11 +147,11 @@ answered_total test (p ∷ ps) (t ∷ ts) f even each =
     omega arith
 
 task_tally : (on_deed : Deed → Bool) (on_call : Call → Bool) → Agree on_deed on_call
-    → (scene : Scene) (s : State) (n : ℕ) (p : Program) (t : Thought) → Resting scene s n p t
+    → (scene : Scene) (s : State) (n : ℕ) (p : Program) (t : Position) → Resting scene s n p t
     → how_many on_call (answered p t) ≡ tally_by on_deed (n + 1) s.signals
 task_tally on_deed on_call agree scene s n p t r =
     let fits : Fits on_deed on_call p t (own_signals (mode_of scene) n p r.history) =
-    subst (λ (u : Thought). Fits on_deed on_call p u
+    subst (λ (u : Position). Fits on_deed on_call p u
     (own_signals (mode_of scene) n p r.history)) r.stands
     (history_fits on_deed on_call agree (mode_of scene) n p r.history) in
     ap (λ (k : ℕ). how_many on_call (take k p.calls)) fits.even ∙ fits.counted
@@ -159,10 +159,10 @@ task_tally on_deed on_call agree scene s n p t r =
 
 run_tally : (on_deed : Deed → Bool) (on_call : Call → Bool) → Agree on_deed on_call
     → (scene : Scene) (m : Moment) → IsReached scene m
-    → answered_by on_call scene.programs m.thoughts ≡ tally on_deed m.state.signals
+    → answered_by on_call scene.programs m.positions ≡ tally on_deed m.state.signals
 run_tally on_deed on_call agree scene m r =
-    answered_total on_call scene.programs m.thoughts
-    (λ j. tally_by on_deed (j + 1) m.state.signals) r.legal.thoughts_even
+    answered_total on_call scene.programs m.positions
+    (λ j. tally_by on_deed (j + 1) m.state.signals) r.legal.positions_even
     (λ k p t a b. task_tally on_deed on_call agree scene m.state k p t (r.tasks k p t a b))
     ∙ tally_total on_deed (length scene.programs) m.state.signals r.legal.signed
 

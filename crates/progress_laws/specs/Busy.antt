@@ -9,9 +9,9 @@ use Rattle.inode_events.specs.declared.deed.Deed.TheVariants as deed
 use Rattle.inode_events.specs.declared.told.Event.{Event}
 use Rattle.inode_events.specs.declared.told.Told.{Told}
 use Rattle.inode_events.specs.declared.told.Told.TheVariants as told
-use Rattle.call_steps.specs.Mind.{Step}
-use Rattle.call_steps.specs.Mind.{Does}
-use Rattle.run_model.specs.History.{Answer, own, step_at, thought}
+use Rattle.call_steps.specs.CallState.{Step}
+use Rattle.call_steps.specs.CallState.{Does}
+use Rattle.run_model.specs.History.{Answer, own, position, step_at}
 use Rattle.run_model.specs.Scene.{Program}
 use Rattle.run_model.specs.Served.{events_of}
 use Rattle.progress_laws.specs.Resting.{GoesOn}
@@ -34,4 +34,4 @@ BusyOfHistory =
     (journal : List Event) (f : ℕ)
     → EachFollows inode (newest_first journal) → events_of n journal ≡ own mode n p i h
     → is_collecting (stage_in inode f (reverse (own mode n p i h))) ≡ true
-    → (d : Deed) × (step_at p (thought mode p h).mind ≡ Some (Does i d)) × GoesOn f d
+    → (d : Deed) × (step_at p (position mode p h).call_state ≡ Some (Does i d)) × GoesOn f d

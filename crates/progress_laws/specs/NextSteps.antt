@@ -7,12 +7,12 @@ use Rattle.inode_events.specs.Legal.{EachFollows, May}
 use Rattle.inode_events.specs.NewestFirst.{newest_first}
 use Rattle.inode_events.specs.declared.deed.Deed.TheVariants as deed
 use Rattle.inode_events.specs.declared.told.Event.{Event}
-use Rattle.call_steps.specs.Mind.{Step}
-use Rattle.call_steps.specs.Mind.{Does, Checks}
+use Rattle.call_steps.specs.CallState.{Step}
+use Rattle.call_steps.specs.CallState.{Does, Checks}
 use Rattle.call_steps.specs.declared.call.Call.{Call}
 use Rattle.call_steps.specs.declared.call.Call.TheVariants as call
 use Rattle.journal_laws.specs.Own.{IsOwned}
-use Rattle.run_model.specs.History.{Answer, own, step_at, thought}
+use Rattle.run_model.specs.History.{Answer, own, position, step_at}
 use Rattle.run_model.specs.Scene.{Program}
 use Rattle.run_model.specs.Served.{events_of}
 
@@ -34,4 +34,5 @@ NextMay = (inode : Inode) (n : ℕ) (p : Program) (h : List Answer) (i : ℕ) (j
     → ((k : ℕ) (c : Call) → slice_get p.calls k ≡ Some c → IsFit c)
     → EachFollows inode (newest_first journal) → IsOwned (newest_first journal)
     → events_of n journal ≡ own inode.settings.mode n p i h
-    → MayMake inode i (newest_first journal) (step_at p (thought inode.settings.mode p h).mind)
+    → MayMake inode i (newest_first journal)
+    (step_at p (position inode.settings.mode p h).call_state)

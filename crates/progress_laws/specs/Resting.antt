@@ -9,11 +9,11 @@ use Rattle.inode_events.specs.Semaphores.{LegalSemaphores, posts, waits}
 use Rattle.inode_events.specs.declared.deed.Deed.{Deed}
 use Rattle.inode_events.specs.declared.deed.Deed.TheVariants as deed
 use Rattle.inode_events.specs.declared.told.Event.{Event}
-use Rattle.call_steps.specs.Mind.{Step}
-use Rattle.call_steps.specs.Mind.{Nothing, Does, Checks, Signals, Appends}
+use Rattle.call_steps.specs.CallState.{Step}
+use Rattle.call_steps.specs.CallState.{Nothing, Does, Checks, Signals, Appends}
 use Rattle.journal_laws.specs.Own.{IsOwned}
 use Rattle.run_model.specs.Ended.{all_done, how_many, is_stuck, posted, posts_to, waited, waits_for}
-use Rattle.run_model.specs.History.{Answer, Thought, own, own_signals, step_at, thought}
+use Rattle.run_model.specs.History.{Answer, Position, own, own_signals, position, step_at}
 use Rattle.run_model.specs.Rounds.{all_tasks, any_moves, is_moved, moves}
 use Rattle.run_model.specs.Served.{events_of}
 use Rattle.run_model.specs.Scene.{Program, Scene, ScriptFile, inode_of, mode_of}
@@ -40,17 +40,17 @@ MayStep scene s (Some (Checks i file func mask)) =
 MayStep scene s _ = Unit {0}
 
 -- task n has made the steps of a history, and its next step may be made
-pub record Resting (scene : Scene) (s : State) (n : ℕ) (p : Program) (t : Thought) : Type 0 where
+pub record Resting (scene : Scene) (s : State) (n : ℕ) (p : Program) (t : Position) : Type 0 where
   pub history : List Answer
-  pub stands : thought (mode_of scene) p history ≡ t
+  pub stands : position (mode_of scene) p history ≡ t
   pub events : (i : ℕ) (journal : List Event) → slice_get s.journals i ≡ Some journal
       → events_of n journal ≡ own (mode_of scene) n p i history
   pub signals : events_of n s.signals ≡ own_signals (mode_of scene) n p history
-  pub may : MayStep scene s (step_at p t.mind)
+  pub may : MayStep scene s (step_at p t.call_state)
 
 -- the lists are legal, and each event is by one of the tasks
-pub record AreLegal (scene : Scene) (s : State) (thoughts : List Thought) : Type 0 where
-  pub thoughts_even : length thoughts ≡ length scene.programs
+pub record AreLegal (scene : Scene) (s : State) (positions : List Position) : Type 0 where
+  pub positions_even : length positions ≡ length scene.programs
   pub follows : (i : ℕ) (script_file : ScriptFile) (journal : List Event)
       → slice_get scene.script_files i ≡ Some script_file → slice_get s.journals i ≡ Some journal
       → EachFollows (inode_of scene script_file) (newest_first journal)
@@ -61,15 +61,15 @@ pub record AreLegal (scene : Scene) (s : State) (thoughts : List Thought) : Type
 
 -- a moment of a run: the lists are legal, and each task has made the steps of a history
 pub record IsReached (scene : Scene) (m : Moment) : Type 0 where
-  pub legal : AreLegal scene m.state m.thoughts
-  pub tasks : (n : ℕ) (p : Program) (t : Thought) → slice_get scene.programs n ≡ Some p
-      → slice_get m.thoughts n ≡ Some t → Resting scene m.state n p t
+  pub legal : AreLegal scene m.state m.positions
+  pub tasks : (n : ℕ) (p : Program) (t : Position) → slice_get scene.programs n ≡ Some p
+      → slice_get m.positions n ≡ Some t → Resting scene m.state n p t
 
 -- a moment of a run at which no task moves
 pub record AtRest (scene : Scene) (m : Moment) : Type 0 where
-  pub legal : AreLegal scene m.state m.thoughts
-  pub tasks : (n : ℕ) (p : Program) (t : Thought) → slice_get scene.programs n ≡ Some p
-      → slice_get m.thoughts n ≡ Some t → Resting scene m.state n p t
+  pub legal : AreLegal scene m.state m.positions
+  pub tasks : (n : ℕ) (p : Program) (t : Position) → slice_get scene.programs n ≡ Some p
+      → slice_get m.positions n ≡ Some t → Resting scene m.state n p t
   pub still : (n : ℕ) → n < length scene.programs → moves scene m n ≡ false
 
 -- ---- the laws
@@ -77,24 +77,24 @@ pub record AtRest (scene : Scene) (m : Moment) : Type 0 where
 -- at rest, the answered posts and waits are those in the list of posts and waits
 abbrev pub SignalsCounted : Type 0
 SignalsCounted = (scene : Scene) (m : Moment) → AtRest scene m → (sem : ℕ)
-    → (posted sem scene.programs m.thoughts ≡ posts sem m.state.signals)
-    × (waited sem scene.programs m.thoughts ≡ waits sem m.state.signals)
+    → (posted sem scene.programs m.positions ≡ posts sem m.state.signals)
+    × (waited sem scene.programs m.positions ≡ waits sem m.state.signals)
 
 -- at each moment of a run, the answered posts and waits are those in the list of posts and waits
 abbrev pub SignalsCountedWhenReached : Type 0
 SignalsCountedWhenReached = (scene : Scene) (m : Moment) → IsReached scene m → (sem : ℕ)
-    → (posted sem scene.programs m.thoughts ≡ posts sem m.state.signals)
-    × (waited sem scene.programs m.thoughts ≡ waits sem m.state.signals)
+    → (posted sem scene.programs m.positions ≡ posts sem m.state.signals)
+    × (waited sem scene.programs m.positions ≡ waits sem m.state.signals)
 
 -- at each moment of a run, every wait that was answered had its post
 abbrev pub PaidWhenReached : Type 0
 PaidWhenReached = (scene : Scene) (m : Moment) → IsReached scene m → (sem : ℕ)
-    → waited sem scene.programs m.thoughts ≤ posted sem scene.programs m.thoughts
+    → waited sem scene.programs m.positions ≤ posted sem scene.programs m.positions
 
 abbrev pub EndsAtRest : Type 0
 EndsAtRest = (scene : Scene) (m : Moment) → AtRest scene m
-    → ((sem : ℕ) → waited sem scene.programs m.thoughts ≤ posted sem scene.programs m.thoughts)
-    × ((all_done scene.programs m.thoughts || is_stuck scene.programs m.thoughts) ≡ true)
+    → ((sem : ℕ) → waited sem scene.programs m.positions ≤ posted sem scene.programs m.positions)
+    × ((all_done scene.programs m.positions || is_stuck scene.programs m.positions) ≡ true)
 
 -- if a round moves no task, no task can move
 abbrev pub RoundAtRest : Type 0

@@ -2,7 +2,7 @@
 use Rattle.std.specs.Prelude.{◌≡◌, ℕ, List, length, Some, slice_get}
 use Rattle.inode_events.specs.declared.told.Event.{Event}
 use Rattle.call_steps.specs.declared.call.Call.{Call}
-use Rattle.run_model.specs.History.{Answer, Thought, own, own_signals, thought}
+use Rattle.run_model.specs.History.{Answer, Position, own, own_signals, position}
 use Rattle.run_model.specs.Scene.{Program, Scene, mode_of}
 use Rattle.run_model.specs.Served.{events_of}
 use Rattle.run_model.specs.Turns.{State}
@@ -19,11 +19,11 @@ AreFit scene =
 
 abbrev pub RestsByHistory : Type 0
 RestsByHistory =
-    (scene : Scene) (s : State) (thoughts : List Thought) (n : ℕ) (p : Program) (t : Thought)
+    (scene : Scene) (s : State) (positions : List Position) (n : ℕ) (p : Program) (t : Position)
     (h : List Answer)
-    → AreFit scene → length s.journals ≡ length scene.script_files → AreLegal scene s thoughts
+    → AreFit scene → length s.journals ≡ length scene.script_files → AreLegal scene s positions
     → slice_get scene.programs n ≡ Some p
-    → thought (mode_of scene) p h ≡ t
+    → position (mode_of scene) p h ≡ t
     → ((i : ℕ) (journal : List Event) → slice_get s.journals i ≡ Some journal
     → events_of n journal ≡ own (mode_of scene) n p i h)
     → events_of n s.signals ≡ own_signals (mode_of scene) n p h

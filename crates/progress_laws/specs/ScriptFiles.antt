@@ -6,7 +6,7 @@ use Rattle.inode_events.specs.declared.told.Event.{Event}
 use Rattle.call_steps.specs.declared.call.Call.{Call}
 use Rattle.call_steps.specs.declared.call.Call.TheVariants as call
 use Rattle.journal_laws.specs.Own.{IsOwned}
-use Rattle.run_model.specs.History.{Answer, own, step_at, thought}
+use Rattle.run_model.specs.History.{Answer, own, position, step_at}
 use Rattle.run_model.specs.Scene.{Program, Scene, ScriptFile, inode_of, mode_of}
 use Rattle.run_model.specs.Served.{events_of}
 use Rattle.run_model.specs.Turns.{State}
@@ -34,4 +34,4 @@ StepsMay = (scene : Scene) (s : State) (n : ℕ) (p : Program) (h : List Answer)
     × IsOwned (newest_first journal))
     → ((i : ℕ) (journal : List Event) → slice_get s.journals i ≡ Some journal
     → events_of n journal ≡ own (mode_of scene) n p i h)
-    → MayStep scene s (step_at p (thought (mode_of scene) p h).mind)
+    → MayStep scene s (step_at p (position (mode_of scene) p h).call_state)

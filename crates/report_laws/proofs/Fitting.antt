@@ -15,7 +15,7 @@ use Rattle.inode_events.specs.NewestFirst.{newest_first}
 use Rattle.inode_events.specs.declared.told.Event.{Event}
 use Rattle.call_steps.specs.declared.ending.Ending.{Ending}
 use Rattle.run_model.specs.EndedValue.{EndedTaskValue as EndedTask, ended_of, inodes_ended, tasks_ended}
-use Rattle.run_model.specs.History.{Thought, own}
+use Rattle.run_model.specs.History.{Position, own}
 use Rattle.run_model.specs.Scene.{Program, Scene, ScriptFile, inode_of, mode_of}
 use Rattle.run_model.specs.Served.{IsServed, Run}
 use Rattle.run_model.specs.Shown.{IsShown, journals_of}
@@ -68,8 +68,8 @@ inodes_fit scene (s ∷ ss) (j ∷ js) paths attrs legal deeds = (
   inodes_fit scene ss js paths.1 attrs.1 legal.1 deeds.1,
 )
 
-tasks_fit : (ps : List Program) (ts : List Thought)
-    → ((n : ℕ) (p : Program) (t : Thought) → slice_get ps n ≡ Some p → slice_get ts n ≡ Some t
+tasks_fit : (ps : List Program) (ts : List Position)
+    → ((n : ℕ) (p : Program) (t : Position) → slice_get ps n ≡ Some p → slice_get ts n ≡ Some t
     → AllByRecursion IsReply t.replies)
     → AllByRecursion (λ (t : EndedTask). AllByRecursion IsReply t.replies) (tasks_ended ps ts)
 tasks_fit [] ts h = tt
@@ -80,7 +80,7 @@ tasks_fit (p ∷ ps) (t ∷ ts) h =
 module _ (scene : Scene) (ending : Ending) (run : Run) (names : HasNames scene)
     (shown : IsShown scene ending run) where
   -- the events of a task have replies that can be read back
-  own_replies : (n : ℕ) (p : Program) (t : Thought) (task : IsServed scene run n p t) (i : ℕ)
+  own_replies : (n : ℕ) (p : Program) (t : Position) (task : IsServed scene run n p t) (i : ℕ)
       → i < length scene.script_files
       → AllByRecursion (λ (y : ℕ × Event). IsToldReply y.1.told)
       (own (mode_of scene) n p i task.history)
@@ -96,11 +96,11 @@ module _ (scene : Scene) (ending : Ending) (run : Run) (names : HasNames scene)
       (each_from_past (λ (e : Event). IsToldReply e.told) j.0
       (told_replies (inode_of scene s.0) (newest_first j.0) legal.1)))
 
-  replies_fit : (n : ℕ) (p : Program) (t : Thought) → slice_get scene.programs n ≡ Some p
-      → slice_get run.thoughts n ≡ Some t → AllByRecursion IsReply t.replies
+  replies_fit : (n : ℕ) (p : Program) (t : Position) → slice_get scene.programs n ≡ Some p
+      → slice_get run.positions n ≡ Some t → AllByRecursion IsReply t.replies
   replies_fit n p t ep et =
       let task = shown.served.tasks n p t ep et in
-      subst (λ (u : Thought). AllByRecursion IsReply u.replies) task.stands
+      subst (λ (u : Position). AllByRecursion IsReply u.replies) task.stands
       (task_replies scene run n p task.history task.suited (own_replies n p t task))
 
   -- the run fits
@@ -116,5 +116,5 @@ module _ (scene : Scene) (ending : Ending) (run : Run) (names : HasNames scene)
         (journals_of scene scene.script_files run.journals) shown.legal)
         (each_from_places (λ (j : List Event). AllByRecursion (λ (e : Event). IsDeed e.deed) j)
         run.journals (journal_named scene run shown.served names.calls));
-    replies = tasks_fit scene.programs run.thoughts replies_fit;
+    replies = tasks_fit scene.programs run.positions replies_fit;
   }

@@ -11,12 +11,12 @@ use Rattle.inode_events.specs.Callers.{caller_in, caller_of}
 use Rattle.inode_events.specs.declared.deed.Deed.{Deed}
 use Rattle.inode_events.specs.declared.deed.Deed.TheVariants as deed
 use Rattle.inode_events.specs.declared.told.Event.{Event}
-use Rattle.run_model.specs.History.{Answer, Thought, call_at, event_in, own, step_at, thought, who_at}
+use Rattle.run_model.specs.History.{Answer, Position, call_at, event_in, own, position, step_at, who_at}
 use Rattle.run_model.specs.Served.{AreSuited, IsServed, Run, Suits, events_of, rules_known}
 use Rattle.run_model.specs.Scene.{Program, Scene, mode_of}
 use Rattle.report_text.specs.Printed.{printed, printed_by}
 use Rattle.run_model.specs.EndedValue.{grows}
-use Rattle.report_laws.proofs.Minds.{place_in, next_mind, mind_after, step_plain, who_plain}
+use Rattle.report_laws.proofs.CallStates.{call_state_after, next_call_state, place_in, step_plain, who_plain}
 use Rattle.report_laws.proofs.Own.{Alike, Meet, al, empty, event_length, is_no_birth, left, length_alike, length_map, map_append, middle, no_birth, own_after, pr, rules_least, step_alike, suited_after}
 
 -- the second of two tests that both hold
@@ -41,24 +41,26 @@ module _ (scene : Scene) (a b : Run) (n : ℕ) (p : Program) (meet : Meet scene 
     ≡ map (pr scene) (own (mode_of scene) n p i hb))
     (nb : (i : ℕ) → i < length scene.script_files → list_all no_birth (own (mode_of scene) n p i ha)
     ≡ true) where
-  -- histories of one length lead to the same mind and to alike events
+  -- histories of one length lead to the same state and to alike events
   alike_from : (ga gb fa fb : List Answer) → ha ≡ fa ++ ga → hb ≡ fb ++ gb → length ga ≡ length gb
       → Alike scene n p ga gb
-  alike_from [] [] fa fb ea eb len = record { minds = refl; events = λ i. refl }
+  alike_from [] [] fa fb ea eb len = record { call_states = refl; events = λ i. refl }
   alike_from [] (y ∷ gb) fa fb ea eb len = absurd (omega (arith, len))
   alike_from (x ∷ ga) [] fa fb ea eb len = absurd (omega (arith, len))
   alike_from (x ∷ ga) (y ∷ gb) fa fb ea eb len =
       let before =
       alike_from ga gb (fa ++ x ∷ []) (fb ++ y ∷ []) (ea ∙ sym (append_assoc fa (x ∷ []) ga))
       (eb ∙ sym (append_assoc fb (y ∷ []) gb)) (omega (arith, len)) in
-      let ta = thought (mode_of scene) p ga in
-      let tb = thought (mode_of scene) p gb in
-      let s = step_at p ta.mind in
-      let w = who_at n p ta.mind in
-      let step : s ≡ step_at p tb.mind = step_plain p ta.mind ∙ ap (step_at p) before.minds
-      ∙ sym (step_plain p tb.mind) in
-      let who : w ≡ who_at n p tb.mind = who_plain n p ta.mind ∙ ap (who_at n p) before.minds
-      ∙ sym (who_plain n p tb.mind) in
+      let ta = position (mode_of scene) p ga in
+      let tb = position (mode_of scene) p gb in
+      let s = step_at p ta.call_state in
+      let w = who_at n p ta.call_state in
+      let step : s ≡ step_at p tb.call_state =
+      step_plain p ta.call_state ∙ ap (step_at p) before.call_states
+      ∙ sym (step_plain p tb.call_state) in
+      let who : w ≡ who_at n p tb.call_state =
+      who_plain n p ta.call_state ∙ ap (who_at n p) before.call_states
+      ∙ sym (who_plain n p tb.call_state) in
       let suits_a = suited_after scene a p fa (x ∷ ga) (subst (AreSuited scene a p) ea sa) in
       let suits_b = suited_after scene b p fb (y ∷ gb) (subst (AreSuited scene b p) eb sb) in
       let hy : Suits scene b p (rules_known scene p gb) s y =
@@ -85,13 +87,13 @@ module _ (scene : Scene) (a b : Run) (n : ℕ) (p : Program) (meet : Meet scene 
       let here = step_alike scene a b p meet (rules_known scene p ga) (rules_known scene p gb) w s x
       y suits_a.0 hy
       (rules_least scene a p ga suits_a.1) (rules_least scene b p gb suits_b.1) shown births in
-      let place : place_in s x.place ≡ place_in (step_at p tb.mind) y.place = here.place
+      let place : place_in s x.place ≡ place_in (step_at p tb.call_state) y.place = here.place
       ∙ ap (λ z. place_in z y.place) step in
       record {
-        minds = mind_after (mode_of scene) p ta x
-            ∙ (λ j. next_mind (mode_of scene) p (call_at p (before.minds j)) (before.minds j)
-            (place j) (here.told j) (here.action j))
-            ∙ sym (mind_after (mode_of scene) p tb y);
+        call_states = call_state_after (mode_of scene) p ta x
+            ∙ (λ j. next_call_state (mode_of scene) p (call_at p (before.call_states j))
+            (before.call_states j) (place j) (here.told j) (here.action j))
+            ∙ sym (call_state_after (mode_of scene) p tb y);
         events = λ i. map_append al (own (mode_of scene) n p i ga) (event_in i w s x)
             ∙ (λ j. before.events i j ++ here.events i j)
             ∙ sym (map_append al (own (mode_of scene) n p i gb) (event_in i w s y))
@@ -249,7 +251,7 @@ Shows scene a b = (i : ℕ) → i < length scene.script_files → (x : List Even
     ≡ map (printed scene.settings.template (grows scene)) y)
 
 -- two runs whose journals print alike have alike events of each task in each journal
-pub task_alike : (scene : Scene) (a b : Run) (n : ℕ) (p : Program) (ta tb : Thought)
+pub task_alike : (scene : Scene) (a b : Run) (n : ℕ) (p : Program) (ta tb : Position)
     → Meet scene a b → Shows scene a b
     → IsServed scene a n p ta → IsServed scene b n p tb
     → (i : ℕ) (x y : List Event) → i < length scene.script_files → slice_get a.journals i ≡ Some x

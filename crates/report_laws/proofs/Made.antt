@@ -13,15 +13,15 @@ use Rattle.inode_events.specs.NewestFirst.{newest_first}
 use Rattle.inode_events.specs.declared.deed.Deed.{Deed}
 use Rattle.inode_events.specs.declared.deed.Deed.TheVariants as deed
 use Rattle.inode_events.specs.declared.told.Event.{Event}
-use Rattle.call_steps.specs.Mind.{Mind, Progress, Step, deed_of, plain_step, progress_of, step_by}
-use Rattle.call_steps.specs.Mind.{Nothing, Does, Checks, Signals, Appends}
+use Rattle.call_steps.specs.CallState.{CallState, Progress, Step, deed_of, plain_step, progress_of, step_by}
+use Rattle.call_steps.specs.CallState.{Nothing, Does, Checks, Signals, Appends}
 use Rattle.call_steps.specs.declared.ask.Ask.{Ask}
 use Rattle.call_steps.specs.declared.ask.Ask.TheVariants as ask
 use Rattle.call_steps.specs.declared.call.Call.{Call}
 use Rattle.call_steps.specs.declared.call.Call.TheVariants as call
 use Rattle.run_model.specs.growing.Entries.{entries_from}
 use Rattle.run_model.specs.rules.declared.cell.RuleEntry.{RuleEntry}
-use Rattle.run_model.specs.History.{Answer, call_at, event, event_in, own, own_rules, rule_in, step_at, step_in, thought, who_at}
+use Rattle.run_model.specs.History.{Answer, call_at, event, event_in, own, own_rules, position, rule_in, step_at, step_in, who_at}
 use Rattle.run_model.specs.Scene.{Program, Scene, mode_of}
 use Rattle.run_model.specs.Served.{Run, Served}
 use Rattle.report_text.specs.Ranges.{IsDeed}
@@ -138,14 +138,14 @@ step_named admin c g ask.SetMeta h = deed_named admin c g.file h
 step_named admin c g ask.Plain h = plain_named admin c h
 step_named admin c g a h = tt
 
-named_in : (p : Program) (o : Option Call) (m : Mind)
+named_in : (p : Program) (o : Option Call) (m : CallState)
     → ((c : Call) → o ≡ Some c → IsNamedCall c) → IfNamed (step_in p o m)
 named_in p None m h = tt
 named_in p (Some c) m h = step_named p.cred.admin c (progress_of p.cred.admin c m)
     (progress_of p.cred.admin c m).due.ask (h c refl)
 
 -- the next step of a program whose calls are named
-next_named : (p : Program) (m : Mind) → AllByRecursion IsNamedCall p.calls
+next_named : (p : Program) (m : CallState) → AllByRecursion IsNamedCall p.calls
     → IfNamed (step_at p m)
 next_named p m h = named_in p (call_at p m) m (λ c e. each_at IsNamedCall p.calls m.at c h e)
 
@@ -182,7 +182,7 @@ own_named : (mode : Mode) (n : ℕ) (p : Program) (i : ℕ) (h : List Answer)
     → AllByRecursion (λ (y : ℕ × Event). IsDeed y.1.deed) (own mode n p i h)
 own_named mode n p i [] k = tt
 own_named mode n p i (a ∷ h) k =
-    let m = (thought mode p h).mind in
+    let m = (position mode p h).call_state in
     each_append (λ (y : ℕ × Event). IsDeed y.1.deed) (own mode n p i h)
     (event_in i (who_at n p m) (step_at p m) a) (own_named mode n p i h k)
     (event_named i (who_at n p m) (step_at p m) a (next_named p m k))
@@ -193,7 +193,7 @@ own_rules_named : (mode : Mode) (n : ℕ) (p : Program) (h : List Answer)
     → AllByRecursion (λ (y : ℕ × RuleEntry). IsRule y.1.rule) (own_rules mode n p h)
 own_rules_named mode n p [] k = tt
 own_rules_named mode n p (a ∷ h) k =
-    let m = (thought mode p h).mind in
+    let m = (position mode p h).call_state in
     each_append (λ (y : ℕ × RuleEntry). IsRule y.1.rule) (own_rules mode n p h)
     (rule_in (who_at n p m) (step_at p m) a) (own_rules_named mode n p h k)
     (rule_named (who_at n p m) (step_at p m) a (next_named p m k))
@@ -238,7 +238,7 @@ module _ (scene : Scene) (run : Run) (served : Served scene run)
           callers zero is = births_named 0 journal
           callers (suc n) is =
               let p = some_at scene.programs n (omega (arith, is)) in
-              let t = some_at run.thoughts n (omega (arith, is, served.thoughts)) in
+              let t = some_at run.positions n (omega (arith, is, served.positions)) in
               let task = served.tasks n p.0 t.0 p.1 t.1 in
               let next : n + 1 ≡ suc n = omega arith in
               subst (λ (k : ℕ). AllByRecursion (λ (y : ℕ × Event). IsDeed y.1.deed)
@@ -258,7 +258,7 @@ module _ (scene : Scene) (run : Run) (served : Served scene run)
         served.no_other_rules)
         (λ n is.
         let p = some_at scene.programs n is in
-        let t = some_at run.thoughts n (omega (arith, is, served.thoughts)) in
+        let t = some_at run.positions n (omega (arith, is, served.positions)) in
         let task = served.tasks n p.0 t.0 p.1 t.1 in
         subst (λ (l : List (ℕ × RuleEntry)). AllByRecursion
         (λ (y : ℕ × RuleEntry). IsRule y.1.rule) l) (sym task.rules)

@@ -6,12 +6,12 @@ use Rattle.std.proofs.lemmas.Bool.{false≢true}
 use Rattle.std.proofs.lemmas.List.Elements.{All-head}
 use Rattle.inode_meta.specs.declared.appraisal.Mode.{Mode}
 use Rattle.inode_meta.specs.declared.step.Who.{Who}
-use Rattle.call_steps.specs.Mind.{Mind, Progress, progress_of, step_by}
+use Rattle.call_steps.specs.CallState.{CallState, Progress, progress_of, step_by}
 use Rattle.call_steps.specs.declared.ask.Ask.{Ask}
 use Rattle.call_steps.specs.declared.ask.Ask.TheVariants as ask
 use Rattle.call_steps.specs.declared.call.Call.{Call}
 use Rattle.call_steps.specs.declared.call.Call.TheVariants as call
-use Rattle.run_model.specs.History.{Answer, call_at, own_rules, rule_in, step_at, step_in, thought, who_at}
+use Rattle.run_model.specs.History.{Answer, call_at, own_rules, position, rule_in, step_at, step_in, who_at}
 use Rattle.run_model.specs.Served.{Run, Served, rules_of}
 use Rattle.run_model.specs.Scene.{Program, Scene, mode_of}
 use Rattle.run_model.specs.rules.declared.cell.RuleEntry.{RuleEntry}
@@ -68,7 +68,7 @@ none_by admin (call.Firmware i) g ask.Plain w x h = refl
 none_by admin (call.AddRule r) g ask.Plain w x h = absurd (false≢true (sym h))
 
 -- a step of a call that may be missing appends nothing, unless the call is an `addrule`
-none_in : (p : Program) (c : Option Call) (m : Mind) (w : Who) (x : Answer)
+none_in : (p : Program) (c : Option Call) (m : CallState) (w : Who) (x : Answer)
     → ((d : Call) → c ≡ Some d → appends d ≡ false) → rule_in w (step_in p c m) x ≡ []
 none_in p None m w x h = refl
 none_in p (Some c) m w x h = none_by p.cred.admin c (progress_of p.cred.admin c m)
@@ -79,7 +79,7 @@ none_of : (mode : Mode) (n : ℕ) (p : Program) (h : List Answer) → list_any a
     → own_rules mode n p h ≡ []
 none_of mode n p [] e = refl
 none_of mode n p (x ∷ h) e =
-    let m = (thought mode p h).mind in
+    let m = (position mode p h).call_state in
     let here : rule_in (who_at n p m) (step_at p m) x ≡ [] =
     none_in p (call_at p m) m (who_at n p m) x (λ d k. none_at appends p.calls m.at d e k) in
     λ i. none_of mode n p h e i ++ here i
@@ -104,7 +104,7 @@ none_added scene a (r ∷ rs) s e g =
     (subst (λ l. All (λ (r : RuleEntry). r.who.task < length scene.programs) l) e s.no_other_rules)
     in
     let p = some_at scene.programs r.who.task below in
-    let t = some_at a.thoughts r.who.task (omega (arith, below, s.thoughts)) in
+    let t = some_at a.positions r.who.task (omega (arith, below, s.positions)) in
     let task = s.tasks r.who.task p.0 t.0 p.1 t.1 in
     let calls : list_any appends p.0.calls ≡ false =
     none_at (λ (p : Program). list_any appends p.calls) scene.programs r.who.task p.0 g p.1 in

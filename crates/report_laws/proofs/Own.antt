@@ -12,14 +12,14 @@ use Rattle.inode_events.specs.declared.deed.Deed.{Deed}
 use Rattle.inode_events.specs.declared.deed.Deed.TheVariants as deed
 use Rattle.inode_events.specs.declared.told.Event.{Event}
 use Rattle.inode_events.specs.declared.told.Told.{Told}
-use Rattle.call_steps.specs.Mind.{Step}
-use Rattle.call_steps.specs.Mind.{Nothing, Does, Checks, Signals, Appends}
-use Rattle.run_model.specs.History.{Answer, event, event_in, own, step_at, thought, who_at}
+use Rattle.call_steps.specs.CallState.{Step}
+use Rattle.call_steps.specs.CallState.{Nothing, Does, Checks, Signals, Appends}
+use Rattle.run_model.specs.History.{Answer, event, event_in, own, position, step_at, who_at}
 use Rattle.run_model.specs.Served.{AreSuited, Run, Suits, final_rules, known_after, rules_known}
 use Rattle.run_model.specs.Scene.{Program, Scene, decided, mode_of, rules_with}
 use Rattle.report_text.specs.Printed.{birth_event, printed, printed_told}
 use Rattle.run_model.specs.EndedValue.{grows}
-use Rattle.report_laws.proofs.Minds.{place_in, plain_mind}
+use Rattle.report_laws.proofs.CallStates.{place_in, plain_call_state}
 
 -- ---- parts of lists
 
@@ -329,8 +329,8 @@ pub rules_least : (scene : Scene) (a : Run) (p : Program) (h : List Answer) → 
     → length scene.rules ≤ rules_known scene p h
 rules_least scene a p [] s = omega arith
 rules_least scene a p (x ∷ h) s =
-    known_least scene a p (rules_known scene p h) (step_at p (thought (mode_of scene) p h).mind) x
-    s.0
+    known_least scene a p (rules_known scene p h)
+    (step_at p (position (mode_of scene) p h).call_state) x s.0
     (rules_least scene a p h s.1)
 
 -- the older part of a history that suits a run suits the run
@@ -346,13 +346,13 @@ pub own_after : (scene : Scene) (n : ℕ) (p : Program) (i : ℕ) (front h : Lis
 own_after scene n p i [] h = ([], sym (append-nil (own (mode_of scene) n p i h)))
 own_after scene n p i (x ∷ front) h =
     let r = own_after scene n p i front h in
-    let m = (thought (mode_of scene) p (front ++ h)).mind in
+    let m = (position (mode_of scene) p (front ++ h)).call_state in
     let e = event_in i (who_at n p m) (step_at p m) x in
     (r.0 ++ e, ap (λ l. l ++ e) r.1 ∙ append_assoc (own (mode_of scene) n p i h) r.0 e)
 
 pub record Alike (scene : Scene) (n : ℕ) (p : Program) (g h : List Answer) : Type 0 where
-  pub minds : plain_mind (thought (mode_of scene) p g).mind
-      ≡ plain_mind (thought (mode_of scene) p h).mind
+  pub call_states : plain_call_state (position (mode_of scene) p g).call_state
+      ≡ plain_call_state (position (mode_of scene) p h).call_state
   pub events : (i : ℕ) → map al (own (mode_of scene) n p i g) ≡ map al (own (mode_of scene) n p i h)
 
 -- lists of alike entries have the same length

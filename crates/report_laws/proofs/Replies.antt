@@ -33,8 +33,8 @@ use Rattle.inode_events.specs.declared.told.Told.TheVariants as told
 use Rattle.inode_events.specs.labels.declared.verdict.Verdict.{Verdict}
 use Rattle.inode_events.specs.labels.declared.verdict.Verdict.TheVariants.{Deny, Pass}
 use Rattle.ima_templates.specs.xattrs.Attrs.{value}
-use Rattle.call_steps.specs.Mind.{Mind, Progress, Step, begun, moved, progress_of}
-use Rattle.call_steps.specs.Mind.{Nothing, Does, Checks, Signals, Appends}
+use Rattle.call_steps.specs.CallState.{CallState, Progress, Step, begun, moved, progress_of}
+use Rattle.call_steps.specs.CallState.{Nothing, Does, Checks, Signals, Appends}
 use Rattle.call_steps.specs.Steps.{admitted, after_chunk, after_close, after_count, after_finish, after_take, asks_in, at_once, close_held, course_of, first, goes, granted, has_read, if_free, if_readable, if_writable, next, next_by, refused_by, reply_of, take}
 use Rattle.call_steps.specs.declared.ask.Ask.{Ask}
 use Rattle.call_steps.specs.declared.ask.Ask.TheVariants as ask
@@ -49,7 +49,7 @@ use Rattle.call_steps.specs.declared.held.Hand.{Hand}
 use Rattle.call_steps.specs.declared.held.Held.{Held}
 use Rattle.call_steps.specs.declared.reply.Reply.{Reply}
 use Rattle.call_steps.specs.declared.reply.Reply.TheVariants as reply
-use Rattle.run_model.specs.History.{Answer, Thought, call_at, event_in, hear_in, own, step_at, thought, thought_with, who_at}
+use Rattle.run_model.specs.History.{Answer, Position, call_at, event_in, own, position, position_with, resume_in, step_at, who_at}
 use Rattle.run_model.specs.Scene.{Program, Scene, mode_of}
 use Rattle.run_model.specs.Served.{AreSuited, Run, Suits, rules_known}
 use Rattle.report_text.specs.Ranges.{IsReply}
@@ -367,11 +367,11 @@ IfProgress None = Unit {0}
 IfProgress (Some g) = IsReply g.due.reply
 
 -- the reply that is due and those that were given
-record AreReplies (t : Thought) : Type 0 where
-  due : IfProgress t.mind.progress
+record AreReplies (t : Position) : Type 0 where
+  due : IfProgress t.call_state.progress
   given : AllByRecursion IsReply t.replies
 
-progress_reply : (admin : Bool) (c : Call) (m : Mind) → IfProgress m.progress
+progress_reply : (admin : Bool) (c : Call) (m : CallState) → IfProgress m.progress
     → IsReply (progress_of admin c m).due.reply
 progress_reply admin c m h = at m.progress h where
   at : (o : Option Progress) → IfProgress o
@@ -379,27 +379,28 @@ progress_reply admin c m h = at m.progress h where
   at None k = first_reply c _
   at (Some g) k = k
 
-moved_replies : (c : Call) (t : Thought) (g : Progress) (place : ℕ) (n : Next) → IsNextReply n
-    → AllByRecursion IsReply t.replies → AreReplies (thought_with t (moved c t.mind g place n))
+moved_replies : (c : Call) (t : Position) (g : Progress) (place : ℕ) (n : Next) → IsNextReply n
+    → AllByRecursion IsReply t.replies
+    → AreReplies (position_with t (moved c t.call_state g place n))
 moved_replies c t g place (On s) h given = record { due = h; given = given }
 moved_replies c t g place (Over r) h given =
     record { due = tt; given = each_append IsReply t.replies (r ∷ []) given (h, tt) }
 
-hear_replies : (mode : Mode) (p : Program) (o : Option Call) (t : Thought) (a : Answer)
-    → AreReplies t → IsToldReply a.told → AreReplies (hear_in mode p o t a)
-hear_replies mode p None t a h k = h
-hear_replies mode p (Some c) t a h k =
-    let g = progress_of p.cred.admin c t.mind in
+resume_replies : (mode : Mode) (p : Program) (o : Option Call) (t : Position) (a : Answer)
+    → AreReplies t → IsToldReply a.told → AreReplies (resume_in mode p o t a)
+resume_replies mode p None t a h k = h
+resume_replies mode p (Some c) t a h k =
+    let g = progress_of p.cred.admin c t.call_state in
     moved_replies c t g a.place (next mode c g.due a.told a.action)
     (next_reply mode (course_of c) g.due.ask g.due.reply a.told a.action
-    (progress_reply p.cred.admin c t.mind h.due) k) h.given
+    (progress_reply p.cred.admin c t.call_state h.due) k) h.given
 
-thought_replies : (mode : Mode) (p : Program) (h : List Answer)
-    → AllByRecursion (λ (a : Answer). IsToldReply a.told) h → AreReplies (thought mode p h)
-thought_replies mode p [] k = record { due = tt; given = tt }
-thought_replies mode p (a ∷ h) k =
-    hear_replies mode p (call_at p (thought mode p h).mind) (thought mode p h) a
-    (thought_replies mode p h k.1) k.0
+position_replies : (mode : Mode) (p : Program) (h : List Answer)
+    → AllByRecursion (λ (a : Answer). IsToldReply a.told) h → AreReplies (position mode p h)
+position_replies mode p [] k = record { due = tt; given = tt }
+position_replies mode p (a ∷ h) k =
+    resume_replies mode p (call_at p (position mode p h).call_state) (position mode p h) a
+    (position_replies mode p h k.1) k.0
 
 -- ---- the answers of a history
 
@@ -429,7 +430,7 @@ answers_replies : (scene : Scene) (run : Run) (n : ℕ) (p : Program) (h : List 
     → AllByRecursion (λ (a : Answer). IsToldReply a.told) h
 answers_replies scene run n p [] suited events = tt
 answers_replies scene run n p (a ∷ h) suited events =
-    let m = (thought (mode_of scene) p h).mind in
+    let m = (position (mode_of scene) p h).call_state in
     let P : ℕ × Event → Type 0 = λ y. IsToldReply y.1.told in (
       answer_reply scene run p (rules_known scene p h) (who_at n p m) (step_at p m) a suited.0
           (λ i below. each_right P (own (mode_of scene) n p i h)
@@ -444,6 +445,6 @@ pub task_replies : (scene : Scene) (run : Run) (n : ℕ) (p : Program) (h : List
     → AreSuited scene run p h
     → ((i : ℕ) → i < length scene.script_files
     → AllByRecursion (λ (y : ℕ × Event). IsToldReply y.1.told) (own (mode_of scene) n p i h))
-    → AllByRecursion IsReply (thought (mode_of scene) p h).replies
+    → AllByRecursion IsReply (position (mode_of scene) p h).replies
 task_replies scene run n p h suited events =
-    (thought_replies (mode_of scene) p h (answers_replies scene run n p h suited events)).given
+    (position_replies (mode_of scene) p h (answers_replies scene run n p h suited events)).given

@@ -14,7 +14,7 @@ use Rattle.inode_events.specs.Listing.{IsListed, Listed, StandsIn, adds}
 use Rattle.inode_events.specs.Merged.{IsMerged, Journal, Named, named, places_added, times_added}
 use Rattle.inode_events.specs.NewestFirst.{newest_first}
 use Rattle.inode_events.specs.declared.told.Event.{Event}
-use Rattle.run_model.specs.History.{Thought}
+use Rattle.run_model.specs.History.{Position}
 use Rattle.run_model.specs.Served.{Run}
 use Rattle.run_model.specs.Scene.{Program, Scene, ScriptFile, inode_of}
 use Rattle.run_model.specs.Shown.{IsShown, journals_of}
@@ -89,15 +89,15 @@ length_inodes scene (s ∷ ss) (j ∷ js) n =
     omega (arith, length_inodes scene ss js (omega (arith, n)))
 
 -- the ended run has a task for each program
-length_tasks : (ps : List Program) (ts : List Thought) → length ts ≡ length ps
+length_tasks : (ps : List Program) (ts : List Position) → length ts ≡ length ps
     → length (tasks_ended ps ts) ≡ length ps
 length_tasks [] ts n = refl
 length_tasks (p ∷ ps) [] n = absurd (omega (arith, n))
 length_tasks (p ∷ ps) (t ∷ ts) n = omega (arith, length_tasks ps ts (omega (arith, n)))
 
 -- the replies in the ended run are those of the tasks
-shown_replies : (ps : List Program) (ts : List Thought) → length ts ≡ length ps
-    → map (λ (t : EndedTask). t.replies) (tasks_ended ps ts) ≡ map (λ (t : Thought). t.replies) ts
+shown_replies : (ps : List Program) (ts : List Position) → length ts ≡ length ps
+    → map (λ (t : EndedTask). t.replies) (tasks_ended ps ts) ≡ map (λ (t : Position). t.replies) ts
 shown_replies [] [] n = refl
 shown_replies [] (t ∷ ts) n = absurd (omega (arith, n))
 shown_replies (p ∷ ps) [] n = refl
@@ -231,8 +231,8 @@ module _ (scene : Scene) (ending : Ending) (a b : Run) (sa : IsShown scene endin
       let events : map alike x ≡ map alike y = merged_events (length scene.programs) x y callers few
       (λ n at.
       let p = get_some scene.programs n at in
-      let ta = get_some a.thoughts n (omega (arith, at, sa.served.thoughts)) in
-      let tb = get_some b.thoughts n (omega (arith, at, sb.served.thoughts)) in
+      let ta = get_some a.positions n (omega (arith, at, sa.served.positions)) in
+      let tb = get_some b.positions n (omega (arith, at, sb.served.positions)) in
       task_alike scene a b n p.0 ta.0 tb.0 meet shows (sa.served.tasks n p.0 ta.0 p.1 ta.1)
       (sb.served.tasks n p.0 tb.0 p.1 tb.1) i x y below ex ey) in
       past_once x y
@@ -257,8 +257,8 @@ module _ (scene : Scene) (ending : Ending) (a b : Run) (sa : IsShown scene endin
         (sym journals_once) sb.merged)
         told.count;
     added = told.rules;
-    replies = sym (shown_replies scene.programs a.thoughts sa.served.thoughts) ∙ told.replies
-        ∙ shown_replies scene.programs b.thoughts sb.served.thoughts;
+    replies = sym (shown_replies scene.programs a.positions sa.served.positions) ∙ told.replies
+        ∙ shown_replies scene.programs b.positions sb.served.positions;
   }
 
 -- two runs shown by one script with equal reports are the same run
@@ -270,8 +270,8 @@ report_determines scene ending a b names sa sb e =
       base = refl;
       inodes = length_inodes scene scene.script_files a.journals sa.served.journals
           ∙ sym (length_inodes scene scene.script_files b.journals sb.served.journals);
-      tasks = length_tasks scene.programs a.thoughts sa.served.thoughts
-          ∙ sym (length_tasks scene.programs b.thoughts sb.served.thoughts);
+      tasks = length_tasks scene.programs a.positions sa.served.positions
+          ∙ sym (length_tasks scene.programs b.positions sb.served.positions);
       none_of_a = no_rules scene a sa.served;
       none_of_b = no_rules scene b sb.served;
     } in

@@ -20,7 +20,7 @@ pub record IsSameRun (a b : Run) : Type 0 where
   pub journals : a.journals ≡ b.journals
   pub list : a.list ≡ b.list
   pub added : a.added ≡ b.added
-  pub replies : map (λ t. t.replies) a.thoughts ≡ map (λ t. t.replies) b.thoughts
+  pub replies : map (λ t. t.replies) a.positions ≡ map (λ t. t.replies) b.positions
 
 -- the names, modes and rules of a call are some that a line can show
 abbrev pub IsNamedCall : Call → Type 0

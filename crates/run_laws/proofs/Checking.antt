@@ -9,9 +9,9 @@ use Rattle.policy_rules.specs.declared.rule.Func.{Func}
 use Rattle.inode_events.specs.NewestFirst.{newest_first}
 use Rattle.inode_events.specs.State.{metadata}
 use Rattle.inode_events.specs.declared.told.Event.{Event}
-use Rattle.run_model.specs.steps.Mind.{Step}
-use Rattle.run_model.specs.steps.Mind.{Nothing, Does, Checks, Signals, Appends}
-use Rattle.run_model.specs.History.{Answer, step_at, thought}
+use Rattle.run_model.specs.steps.CallState.{Step}
+use Rattle.run_model.specs.steps.CallState.{Nothing, Does, Checks, Signals, Appends}
+use Rattle.run_model.specs.History.{Answer, position, step_at}
 use Rattle.run_model.specs.Scene.{Program, Scene, decided, mode_of, rules_with}
 use Rattle.run_model.specs.Served.{AreSuited, Run, Suits, known_after, rules_known}
 use Rattle.run_model.specs.rules.declared.cell.RuleEntry.{RuleEntry}
@@ -89,7 +89,7 @@ suit_more : (scene : Scene) (old new : Seen) (p : Program) (h : List Answer) →
 suit_more scene old new p [] m s = tt
 suit_more scene old new p (a ∷ h) m s = (
   suits_more scene old new p (rules_known scene p h)
-      (step_at p (thought (mode_of scene) p h).mind) a m s.0,
+      (step_at p (position (mode_of scene) p h).call_state) a m s.0,
   suit_more scene old new p h m s.1,
 )
 
@@ -129,19 +129,19 @@ suits_known scene s p known (Some (Appends rule)) a k h = let here : a.place < l
 
 pub fits_step : (scene : Scene) (p : Program) (s : Seen) (h : List Answer) (a : Answer)
     → ChecksFit scene p s h
-    → SuitsIn scene s p (rules_known scene p h) (step_at p (thought (mode_of scene) p h).mind) a
-    → ChecksFit scene p s (a ∷ h)
+    → SuitsIn scene s p (rules_known scene p h)
+    (step_at p (position (mode_of scene) p h).call_state) a → ChecksFit scene p s (a ∷ h)
 fits_step scene p s h a f x = record {
   suit = (x, f.suit);
   known = suits_known scene s p (rules_known scene p h)
-      (step_at p (thought (mode_of scene) p h).mind) a f.known x;
+      (step_at p (position (mode_of scene) p h).call_state) a f.known x;
 }
 
 pub law_fits_by_step : FitsByStep
 law_fits_by_step scene p old new h a m f x =
     fits_step scene p new h a (law_fits_with_more scene p old new h m f)
     (plain_suits scene new p (rules_known scene p h)
-    (step_at p (thought (mode_of scene) p h).mind) a x)
+    (step_at p (position (mode_of scene) p h).call_state) a x)
 
 check_decided : (scene : Scene) (s : Seen) (p : Program) (known : ℕ) (a : Answer) (i : ℕ)
     (func : Func) (mask : ℕ) → known ≤ length (rules_with scene s.added)
@@ -204,7 +204,7 @@ suit_run : (scene : Scene) (run : Run) (p : Program) (h : List Answer)
 suit_run scene run p [] s = tt
 suit_run scene run p (a ∷ h) s = (
   suits_run scene run p (rules_known scene p h)
-      (step_at p (thought (mode_of scene) p h).mind) a s.0,
+      (step_at p (position (mode_of scene) p h).call_state) a s.0,
   suit_run scene run p h s.1,
 )
 

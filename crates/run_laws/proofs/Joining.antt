@@ -8,7 +8,7 @@ use Rattle.inode_events.specs.Merged.{Journal}
 use Rattle.inode_events.specs.NewestFirst.{newest_first}
 use Rattle.inode_events.specs.declared.told.Event.{Event}
 use Rattle.journal_laws.specs.Own.{own_past}
-use Rattle.run_model.specs.History.{Thought}
+use Rattle.run_model.specs.History.{Position}
 use Rattle.run_model.specs.Scene.{Program, Scene, ScriptFile, mode_of}
 use Rattle.run_model.specs.Served.{IsServed, Run, Served, events_of}
 use Rattle.run_model.specs.Shown.{journals_of}
@@ -51,8 +51,8 @@ stepped_by : (scene : Scene) (run : Run) (s : Served scene run) → RiseServed s
     → k < length scene.programs → Stepped k (journals_of scene scene.script_files run.journals)
 stepped_by scene run s rise k l =
     let p = get_within scene.programs k l in
-    let even : length run.thoughts ≡ length scene.programs = s.thoughts in
-    let t = get_within run.thoughts k (omega arith) in
+    let even : length run.positions ≡ length scene.programs = s.positions in
+    let t = get_within run.positions k (omega arith) in
     let served : IsServed scene run k p.0 t.0 = s.tasks k p.0 t.0 p.1 t.1 in
     record {
       steps = log (mode_of scene) k p.0 served.history;
@@ -60,8 +60,8 @@ stepped_by scene run s rise k l =
       rises = rise k p.0 t.0 p.1 t.1;
       ordered = (log_ordered (mode_of scene) k p.0 served.history).ordered;
     } where
-      own_at : {p : Program} {t : Thought} (served : IsServed scene run k p t) (i : ℕ) (j : Journal)
-          → slice_get (journals_of scene scene.script_files run.journals) i ≡ Some j
+      own_at : {p : Program} {t : Position} (served : IsServed scene run k p t) (i : ℕ)
+          (j : Journal) → slice_get (journals_of scene scene.script_files run.journals) i ≡ Some j
           → own_past (k + 1) j.events ≡ reverse (own_in i (log (mode_of scene) k p served.history))
       own_at {p} {t} served i j h =
           let x = journal_of scene scene.script_files run.journals i j h in

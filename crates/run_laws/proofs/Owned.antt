@@ -23,10 +23,10 @@ use Rattle.inode_events.specs.declared.deed.Deed.TheVariants as deed
 use Rattle.inode_events.specs.declared.told.Event.{Event}
 use Rattle.inode_events.specs.declared.told.Told.{Told}
 use Rattle.inode_events.specs.declared.told.Told.TheVariants as told
-use Rattle.run_model.specs.steps.Mind.{Mind, Step}
-use Rattle.run_model.specs.steps.Mind.{Nothing, Does, Checks, Signals, Appends}
+use Rattle.run_model.specs.steps.CallState.{CallState, Step}
+use Rattle.run_model.specs.steps.CallState.{Nothing, Does, Checks, Signals, Appends}
 use Rattle.run_model.specs.steps.declared.call.Call.{Call}
-use Rattle.run_model.specs.History.{Answer, Thought, call_at, event, event_in, own, own_rules, plain_answer, rule_in, step_at, thought, who_at, who_in}
+use Rattle.run_model.specs.History.{Answer, Position, call_at, event, event_in, own, own_rules, plain_answer, position, rule_in, step_at, who_at, who_in}
 use Rattle.run_model.specs.Scene.{Program, Scene, ScriptFile, decided, inode_of, mode_of, rules_with}
 use Rattle.run_model.specs.Served.{events_of, rules_of}
 use Rattle.run_model.specs.Turns.{State, journal_at, state_on, step_check, step_does, step_due}
@@ -67,7 +67,7 @@ caller_below : (task : ℕ) (d : Deed) → caller_in task d ≤ task + 1
 caller_below task deed.Birth = omega arith
 caller_below task d = omega arith
 
-who_task : (n : ℕ) (p : Program) (o : Option Call) (m : Mind) → (who_in n p o m).task ≡ n
+who_task : (n : ℕ) (p : Program) (o : Option Call) (m : CallState) → (who_in n p o m).task ≡ n
 who_task n p None m = refl
 who_task n p (Some c) m = refl
 
@@ -158,23 +158,23 @@ cond_none true xs e = refl
 cond_none false xs e = sym e
 
 own_does : (scene : Scene) (n : ℕ) (p : Program) (h : List Answer) (i j : ℕ) (d : Deed) (place : ℕ)
-    (o : Option Told) → step_at p (thought (mode_of scene) p h).mind ≡ Some (Does i d)
+    (o : Option Told) → step_at p (position (mode_of scene) p h).call_state ≡ Some (Does i d)
     → own (mode_of scene) n p j h ++ placed_in i j
-    (entered place (who_at n p (thought (mode_of scene) p h).mind) d o)
+    (entered place (who_at n p (position (mode_of scene) p h).call_state) d o)
     ≡ own (mode_of scene) n p j (answers_told place no_action 0 o ++ h)
 own_does scene n p h i j d place None at =
     ap (λ (l : List (ℕ × Event)). own (mode_of scene) n p j h ++ l) (cond_none (i == j) [] refl)
     ∙ append-nil (own (mode_of scene) n p j h)
 own_does scene n p h i j d place (Some t) at =
     ap (λ (o : Option Step). own (mode_of scene) n p j h
-    ++ event_in j (who_at n p (thought (mode_of scene) p h).mind) o (plain_answer place t))
+    ++ event_in j (who_at n p (position (mode_of scene) p h).call_state) o (plain_answer place t))
     (sym at)
 
 own_checks : (scene : Scene) (n : ℕ) (p : Program) (h : List Answer) (i j file : ℕ) (func : Func)
     (mask place : ℕ) (action : Action) (rules : ℕ) (o : Option Told)
-    → step_at p (thought (mode_of scene) p h).mind ≡ Some (Checks i file func mask)
+    → step_at p (position (mode_of scene) p h).call_state ≡ Some (Checks i file func mask)
     → own (mode_of scene) n p j h ++ placed_in i j
-    (entered place (who_at n p (thought (mode_of scene) p h).mind)
+    (entered place (who_at n p (position (mode_of scene) p h).call_state)
     (deed.Check file func action rules) o)
     ≡ own (mode_of scene) n p j (answers_told place action rules o ++ h)
 own_checks scene n p h i j file func mask place action rules None at =
@@ -182,7 +182,7 @@ own_checks scene n p h i j file func mask place action rules None at =
     ∙ append-nil (own (mode_of scene) n p j h)
 own_checks scene n p h i j file func mask place action rules (Some t) at =
     ap (λ (o : Option Step). own (mode_of scene) n p j h
-    ++ event_in j (who_at n p (thought (mode_of scene) p h).mind) o
+    ++ event_in j (who_at n p (position (mode_of scene) p h).call_state) o
     (record { place = place; told = t; action = action; rules = rules })) (sym at)
 
 -- the step makes no event
@@ -206,28 +206,28 @@ ruleless_step who (Appends rule) a q = absurd q
 ruleless_step who x a q = refl
 
 own_quiet : (scene : Scene) (n : ℕ) (p : Program) (h : List Answer) (j : ℕ) (x : Step) (a : Answer)
-    → step_at p (thought (mode_of scene) p h).mind ≡ Some x → IsQuiet x
+    → step_at p (position (mode_of scene) p h).call_state ≡ Some x → IsQuiet x
     → own (mode_of scene) n p j h ≡ own (mode_of scene) n p j (a ∷ h)
 own_quiet scene n p h j x a at q =
     sym (append-nil (own (mode_of scene) n p j h))
     ∙ ap (λ (l : List (ℕ × Event)). own (mode_of scene) n p j h ++ l)
-    (quiet_step j (who_at n p (thought (mode_of scene) p h).mind) x a q)
+    (quiet_step j (who_at n p (position (mode_of scene) p h).call_state) x a q)
     ∙ ap (λ (o : Option Step). own (mode_of scene) n p j h
-    ++ event_in j (who_at n p (thought (mode_of scene) p h).mind) o a) (sym at)
+    ++ event_in j (who_at n p (position (mode_of scene) p h).call_state) o a) (sym at)
 
 rules_quiet : (scene : Scene) (n : ℕ) (p : Program) (h : List Answer) (x : Step) (a : Answer)
-    → step_at p (thought (mode_of scene) p h).mind ≡ Some x → IsRuleless x
+    → step_at p (position (mode_of scene) p h).call_state ≡ Some x → IsRuleless x
     → own_rules (mode_of scene) n p h ≡ own_rules (mode_of scene) n p (a ∷ h)
 rules_quiet scene n p h x a at q =
     sym (append-nil (own_rules (mode_of scene) n p h))
     ∙ ap (λ (l : List (ℕ × RuleEntry)). own_rules (mode_of scene) n p h ++ l)
-    (ruleless_step (who_at n p (thought (mode_of scene) p h).mind) x a q)
+    (ruleless_step (who_at n p (position (mode_of scene) p h).call_state) x a q)
     ∙ ap (λ (o : Option Step). own_rules (mode_of scene) n p h
-    ++ rule_in (who_at n p (thought (mode_of scene) p h).mind) o a) (sym at)
+    ++ rule_in (who_at n p (position (mode_of scene) p h).call_state) o a) (sym at)
 
 rules_told : (scene : Scene) (n : ℕ) (p : Program) (h : List Answer) (x : Step) (place : ℕ)
     (action : Action) (rules : ℕ) (o : Option Told)
-    → step_at p (thought (mode_of scene) p h).mind ≡ Some x → IsRuleless x
+    → step_at p (position (mode_of scene) p h).call_state ≡ Some x → IsRuleless x
     → own_rules (mode_of scene) n p h ≡ own_rules (mode_of scene) n p
     (answers_told place action rules o ++ h)
 rules_told scene n p h x place action rules None at q = refl
@@ -241,7 +241,7 @@ rules_told scene n p h x place action rules (Some t) at q =
 
 own_told : (scene : Scene) (n : ℕ) (p : Program) (h : List Answer) (j : ℕ) (x : Step) (place : ℕ)
     (action : Action) (rules : ℕ) (o : Option Told)
-    → step_at p (thought (mode_of scene) p h).mind ≡ Some x → IsQuiet x
+    → step_at p (position (mode_of scene) p h).call_state ≡ Some x → IsQuiet x
     → own (mode_of scene) n p j h ≡ own (mode_of scene) n p j
     (answers_told place action rules o ++ h)
 own_told scene n p h j x place action rules None at q = refl
@@ -257,9 +257,9 @@ own_told scene n p h j x place action rules (Some t) at q =
 
 does_owns : (scene : Scene) (n : ℕ) (p : Program) (s : State) (h : List Answer) (i : ℕ)
     (o : Option ScriptFile) (d : Deed) → slice_get scene.script_files i ≡ o
-    → step_at p (thought (mode_of scene) p h).mind ≡ Some (Does i d)
+    → step_at p (position (mode_of scene) p h).call_state ≡ Some (Does i d)
     → length s.journals ≡ length scene.script_files → Owns scene n p s h
-    → Owns scene n p (step_does scene n p s (thought (mode_of scene) p h) i o d).state
+    → Owns scene n p (step_does scene n p s (position (mode_of scene) p h) i o d).state
     (does_answers scene s i o d ++ h)
 does_owns scene n p s h i None d q at even w = w
 does_owns scene n p s h i (Some script_file) d q at even w =
@@ -269,11 +269,11 @@ does_owns scene n p s h i (Some script_file) d q at even w =
     record {
       events = λ j journal g.
           mine_after n s i (inode_of scene script_file)
-          (who_at n p (thought (mode_of scene) p h).mind) d
+          (who_at n p (position (mode_of scene) p h).call_state) d
           (outcome (inode_of scene script_file) s.list d (newest_first (journal_at s i)))
           (λ k. own (mode_of scene) n p k h) inside
-          (who_task n p (call_at p (thought (mode_of scene) p h).mind)
-          (thought (mode_of scene) p h).mind)
+          (who_task n p (call_at p (position (mode_of scene) p h).call_state)
+          (position (mode_of scene) p h).call_state)
           (no_birth (inode_of scene script_file) s.list d (newest_first (journal_at s i))) w.events
           j journal g ∙ own_does scene n p h i j d (length (journal_at s i))
           (outcome (inode_of scene script_file) s.list d (newest_first (journal_at s i))) at;
@@ -283,10 +283,10 @@ does_owns scene n p s h i (Some script_file) d q at even w =
 
 check_owns : (scene : Scene) (n : ℕ) (p : Program) (s : State) (h : List Answer) (i file : ℕ)
     (func : Func) (mask : ℕ) (o : Option ScriptFile) → slice_get scene.script_files i ≡ o
-    → step_at p (thought (mode_of scene) p h).mind ≡ Some (Checks i file func mask)
+    → step_at p (position (mode_of scene) p h).call_state ≡ Some (Checks i file func mask)
     → length s.journals ≡ length scene.script_files → Owns scene n p s h
-    → Owns scene n p (step_check scene n p s (thought (mode_of scene) p h) i o file func mask).state
-    (check_answers scene p s i o file func mask ++ h)
+    → Owns scene n p (step_check scene n p s (position (mode_of scene) p h) i o file
+    func mask).state (check_answers scene p s i o file func mask ++ h)
 check_owns scene n p s h i file func mask None q at even w = w
 check_owns scene n p s h i file func mask (Some script_file) q at even w =
     let within : i < length scene.script_files =
@@ -297,7 +297,7 @@ check_owns scene n p s h i file func mask (Some script_file) q at even w =
     (length (rules_with scene s.added)) inside where
       by : (action : Action) (rules : ℕ) → i < length s.journals
           → Owns scene n p (state_on s i (inode_of scene script_file)
-          (who_at n p (thought (mode_of scene) p h).mind) (deed.Check file func action rules)
+          (who_at n p (position (mode_of scene) p h).call_state) (deed.Check file func action rules)
           (outcome (inode_of scene script_file) s.list (deed.Check file func action rules)
           (newest_first (journal_at s i))))
           (answers_told (length (journal_at s i)) action rules
@@ -306,12 +306,13 @@ check_owns scene n p s h i file func mask (Some script_file) q at even w =
       by action rules inside = record {
         events = λ j journal g.
             mine_after n s i (inode_of scene script_file)
-            (who_at n p (thought (mode_of scene) p h).mind) (deed.Check file func action rules)
+            (who_at n p (position (mode_of scene) p h).call_state)
+            (deed.Check file func action rules)
             (outcome (inode_of scene script_file) s.list (deed.Check file func action rules)
             (newest_first (journal_at s i)))
             (λ k. own (mode_of scene) n p k h) inside
-            (who_task n p (call_at p (thought (mode_of scene) p h).mind)
-            (thought (mode_of scene) p h).mind)
+            (who_task n p (call_at p (position (mode_of scene) p h).call_state)
+            (position (mode_of scene) p h).call_state)
             tt w.events j journal g
             ∙ own_checks scene n p h i j file func mask (length (journal_at s i)) action rules
             (outcome (inode_of scene script_file) s.list (deed.Check file func action rules)
@@ -343,9 +344,9 @@ rule_other n added r ne =
     (length-map added (λ (r : RuleEntry). r.who.task))
 
 step_owns : (scene : Scene) (n : ℕ) (p : Program) (s : State) (h : List Answer) (o : Option Step)
-    → step_at p (thought (mode_of scene) p h).mind ≡ o
+    → step_at p (position (mode_of scene) p h).call_state ≡ o
     → length s.journals ≡ length scene.script_files → Owns scene n p s h
-    → Owns scene n p (step_due scene n p s (thought (mode_of scene) p h) o).state
+    → Owns scene n p (step_due scene n p s (position (mode_of scene) p h) o).state
     (answers_to scene p s o ++ h)
 step_owns scene n p s h None at even w = w
 step_owns scene n p s h (Some Nothing) at even w = record {
@@ -369,42 +370,42 @@ step_owns scene n p s h (Some (Appends rule)) at even w = record {
       ∙ own_quiet scene n p h j (Appends rule) (plain_answer (length s.added) told.Done) at tt;
   rules =
       rule_same n s.added (record {
-        who = who_at n p (thought (mode_of scene) p h).mind;
+        who = who_at n p (position (mode_of scene) p h).call_state;
         rule = rule;
-      }) (who_task n p (call_at p (thought (mode_of scene) p h).mind)
-      (thought (mode_of scene) p h).mind)
+      }) (who_task n p (call_at p (position (mode_of scene) p h).call_state)
+      (position (mode_of scene) p h).call_state)
       ∙ ap (λ (l : List (ℕ × RuleEntry)). l ++ (
         length s.added,
         record {
-          who = who_at n p (thought (mode_of scene) p h).mind;
+          who = who_at n p (position (mode_of scene) p h).call_state;
           rule = rule;
         },
       ) ∷ []) w.rules
       ∙ ap (λ (o : Option Step). own_rules (mode_of scene) n p h
-      ++ rule_in (who_at n p (thought (mode_of scene) p h).mind) o
+      ++ rule_in (who_at n p (position (mode_of scene) p h).call_state) o
       (plain_answer (length s.added) told.Done)) (sym at);
 }
 
 pub law_step_owns : StepOwns
 law_step_owns scene n p s h even w =
-    step_owns scene n p s h (step_at p (thought (mode_of scene) p h).mind) refl even w
+    step_owns scene n p s h (step_at p (position (mode_of scene) p h).call_state) refl even w
 
 -- ---- a step of another task
 
-event_leaves : (scene : Scene) (n k : ℕ) (p q : Program) (s : State) (t : Thought)
+event_leaves : (scene : Scene) (n k : ℕ) (p q : Program) (s : State) (t : Position)
     (h : List Answer) (i : ℕ) (inode : Inode) (d : Deed) → i < length s.journals → k ≢ n
     → Owns scene k q s h
-    → Owns scene k q (state_on s i inode (who_at n p t.mind) d
+    → Owns scene k q (state_on s i inode (who_at n p t.call_state) d
     (outcome inode s.list d (newest_first (journal_at s i)))) h
 event_leaves scene n k p q s t h i inode d l ne w = record {
-  events = others_after n k s i inode (who_at n p t.mind) d
+  events = others_after n k s i inode (who_at n p t.call_state) d
       (outcome inode s.list d (newest_first (journal_at s i))) (λ j. own (mode_of scene) k q j h) l
-      (who_task n p (call_at p t.mind) t.mind) ne
+      (who_task n p (call_at p t.call_state) t.call_state) ne
       (no_birth inode s.list d (newest_first (journal_at s i))) w.events;
   rules = w.rules;
 }
 
-does_leaves : (scene : Scene) (n k : ℕ) (p q : Program) (s : State) (t : Thought) (h : List Answer)
+does_leaves : (scene : Scene) (n k : ℕ) (p q : Program) (s : State) (t : Position) (h : List Answer)
     (i : ℕ) (o : Option ScriptFile) (d : Deed) → slice_get scene.script_files i ≡ o
     → length s.journals ≡ length scene.script_files → k ≢ n → Owns scene k q s h
     → Owns scene k q (step_does scene n p s t i o d).state h
@@ -414,7 +415,7 @@ does_leaves scene n k p q s t h i (Some script_file) d e even ne w =
     slice_get_within scene.script_files i script_file e
     in event_leaves scene n k p q s t h i (inode_of scene script_file) d (omega arith) ne w
 
-check_leaves : (scene : Scene) (n k : ℕ) (p q : Program) (s : State) (t : Thought)
+check_leaves : (scene : Scene) (n k : ℕ) (p q : Program) (s : State) (t : Position)
     (h : List Answer) (i file : ℕ) (func : Func) (mask : ℕ) (o : Option ScriptFile)
     → slice_get scene.script_files i ≡ o
     → length s.journals ≡ length scene.script_files → k ≢ n → Owns scene k q s h
@@ -428,7 +429,7 @@ check_leaves scene n k p q s t h i file func mask (Some script_file) e even ne w
     (metadata (newest_first (journal_at s i))) func mask) (length (rules_with scene s.added)))
     (omega arith) ne w
 
-step_leaves : (scene : Scene) (n k : ℕ) (p q : Program) (s : State) (t : Thought) (h : List Answer)
+step_leaves : (scene : Scene) (n k : ℕ) (p q : Program) (s : State) (t : Position) (h : List Answer)
     (o : Option Step) → length s.journals ≡ length scene.script_files → k ≢ n → Owns scene k q s h
     → Owns scene k q (step_due scene n p s t o).state h
 step_leaves scene n k p q s t h None even ne w = w
@@ -442,13 +443,13 @@ step_leaves scene n k p q s t h (Some (Signals d)) even ne w =
     record { events = w.events; rules = w.rules }
 step_leaves scene n k p q s t h (Some (Appends rule)) even ne w = record {
   events = w.events;
-  rules = rule_other k s.added (record { who = who_at n p t.mind; rule = rule })
-      (λ e. ne (e ∙ who_task n p (call_at p t.mind) t.mind)) ∙ w.rules;
+  rules = rule_other k s.added (record { who = who_at n p t.call_state; rule = rule })
+      (λ e. ne (e ∙ who_task n p (call_at p t.call_state) t.call_state)) ∙ w.rules;
 }
 
 pub law_step_leaves : StepLeaves
 law_step_leaves scene n k p q s t h even ne w =
-    step_leaves scene n k p q s t h (step_at p t.mind) even ne w
+    step_leaves scene n k p q s t h (step_at p t.call_state) even ne w
 
 -- ---- the owners of events and rules
 
@@ -477,10 +478,10 @@ event_signs n count s i inode who d o l w a = record {
       (a.events i (journal_at s i) (slice_get-get_or s.journals i [] l)))
   at j journal (inr e) = a.events j journal e.1
 
-who_below : (n count : ℕ) (p : Program) (m : Mind) → n < count → (who_at n p m).task < count
+who_below : (n count : ℕ) (p : Program) (m : CallState) → n < count → (who_at n p m).task < count
 who_below n count p m l = subst (λ (k : ℕ). k < count) (sym (who_task n p (call_at p m) m)) l
 
-does_signs : (scene : Scene) (n count : ℕ) (p : Program) (s : State) (t : Thought) (i : ℕ)
+does_signs : (scene : Scene) (n count : ℕ) (p : Program) (s : State) (t : Position) (i : ℕ)
     (o : Option ScriptFile) (d : Deed) → slice_get scene.script_files i ≡ o
     → length s.journals ≡ length scene.script_files → n < count → AreSigned count s
     → AreSigned count (step_does scene n p s t i o d).state
@@ -488,11 +489,11 @@ does_signs scene n count p s t i None d e even l a = a
 does_signs scene n count p s t i (Some script_file) d e even l a =
     let within : i < length scene.script_files =
     slice_get_within scene.script_files i script_file e in
-    event_signs n count s i (inode_of scene script_file) (who_at n p t.mind) d
+    event_signs n count s i (inode_of scene script_file) (who_at n p t.call_state) d
     (outcome (inode_of scene script_file) s.list d (newest_first (journal_at s i))) (omega arith)
-    (who_below n count p t.mind l) a
+    (who_below n count p t.call_state l) a
 
-check_signs : (scene : Scene) (n count : ℕ) (p : Program) (s : State) (t : Thought) (i file : ℕ)
+check_signs : (scene : Scene) (n count : ℕ) (p : Program) (s : State) (t : Position) (i file : ℕ)
     (func : Func) (mask : ℕ) (o : Option ScriptFile) → slice_get scene.script_files i ≡ o
     → length s.journals ≡ length scene.script_files → n < count → AreSigned count s
     → AreSigned count (step_check scene n p s t i o file func mask).state
@@ -505,14 +506,14 @@ check_signs scene n count p s t i file func mask (Some script_file) e even l a =
     (metadata (newest_first (journal_at s i))) func mask)
     (length (rules_with scene s.added))) inside where
       by : (d : Deed) → i < length s.journals
-          → AreSigned count (state_on s i (inode_of scene script_file) (who_at n p t.mind) d
+          → AreSigned count (state_on s i (inode_of scene script_file) (who_at n p t.call_state) d
           (outcome (inode_of scene script_file) s.list d (newest_first (journal_at s i))))
       by d inside =
-          event_signs n count s i (inode_of scene script_file) (who_at n p t.mind) d
+          event_signs n count s i (inode_of scene script_file) (who_at n p t.call_state) d
           (outcome (inode_of scene script_file) s.list d (newest_first (journal_at s i))) inside
-          (who_below n count p t.mind l) a
+          (who_below n count p t.call_state l) a
 
-step_signs : (scene : Scene) (n count : ℕ) (p : Program) (s : State) (t : Thought)
+step_signs : (scene : Scene) (n count : ℕ) (p : Program) (s : State) (t : Position)
     (o : Option Step) → length s.journals ≡ length scene.script_files → n < count
     → AreSigned count s → AreSigned count (step_due scene n p s t o).state
 step_signs scene n count p s t None even l a = a
@@ -526,9 +527,12 @@ step_signs scene n count p s t (Some (Signals d)) even l a =
 step_signs scene n count p s t (Some (Appends rule)) even l a = record {
   events = a.events;
   rules = All-push (λ (r : RuleEntry). r.who.task < count) s.added
-      (record { who = who_at n p t.mind; rule = rule }) a.rules (who_below n count p t.mind l);
+      (record {
+        who = who_at n p t.call_state;
+        rule = rule;
+      }) a.rules (who_below n count p t.call_state l);
 }
 
 pub law_step_signs : StepSigns
 law_step_signs scene n count p s t even l a =
-    step_signs scene n count p s t (step_at p t.mind) even l a
+    step_signs scene n count p s t (step_at p t.call_state) even l a

@@ -10,7 +10,7 @@ use Rattle.inode_events.specs.Inode.{nobody}
 use Rattle.inode_events.specs.declared.deed.Deed.TheVariants as deed
 use Rattle.inode_events.specs.declared.told.Event.{Event}
 use Rattle.inode_events.specs.declared.told.Told.TheVariants as told
-use Rattle.run_model.specs.History.{Thought, event, start}
+use Rattle.run_model.specs.History.{Position, event, start}
 use Rattle.run_model.specs.Scene.{Program, Scene, ScriptFile}
 use Rattle.run_model.specs.Rounds.{RoundsTo, all_tasks, rounds}
 use Rattle.run_model.specs.Served.{Served, events_of}
@@ -23,21 +23,21 @@ use Rattle.run_laws.specs.ScriptFiles.{ScriptFileRules}
 use Rattle.run_laws.proofs.Checking.{law_fits_are_suited, law_fits_at_first, law_fits_with_more}
 use Rattle.run_laws.proofs.Owned.{law_step_leaves, law_step_owns, law_step_signs, set_parts}
 use Rattle.run_laws.proofs.Risen.{law_rise_at_first}
-use Rattle.run_laws.proofs.Turning.{get_map, law_step_fits, law_step_grows, law_step_hears, law_step_rises, run_sees}
+use Rattle.run_laws.proofs.Turning.{get_map, law_step_fits, law_step_grows, law_step_resumes, law_step_rises, run_sees}
 
-after_own : (scene : Scene) (n : ℕ) (p : Program) (s : State) (t : Thought)
+after_own : (scene : Scene) (n : ℕ) (p : Program) (s : State) (t : Position)
     → length s.journals ≡ length scene.script_files → HasMade scene s n p t
-    → HasMade scene (step_task scene n p s t).state n p (step_task scene n p s t).thought
+    → HasMade scene (step_task scene n p s t).state n p (step_task scene n p s t).position
 after_own scene n p s t even c =
-    subst (λ (x : Thought). HasMade scene (step_task scene n p s x).state n p
-    (step_task scene n p s x).thought) c.stands (record {
+    subst (λ (x : Position). HasMade scene (step_task scene n p s x).state n p
+    (step_task scene n p s x).position) c.stands (record {
       history = history_after scene p s c.history;
-      stands = sym (law_step_hears scene n p s c.history);
+      stands = sym (law_step_resumes scene n p s c.history);
       fit = law_step_fits scene n p s c.history even c.fit;
       owns = law_step_owns scene n p s c.history even c.owns;
     })
 
-after_other : (scene : Scene) (n k : ℕ) (p q : Program) (s : State) (t u : Thought)
+after_other : (scene : Scene) (n k : ℕ) (p q : Program) (s : State) (t u : Position)
     → length s.journals ≡ length scene.script_files → k ≢ n → HasMade scene s k q u
     → HasMade scene (step_task scene n p s t).state k q u
 after_other scene n k p q s t u even ne c = record {
@@ -48,30 +48,30 @@ after_other scene n k p q s t u even ne c = record {
   owns = law_step_leaves scene n k p q s t c.history even ne c.owns;
 }
 
-turned_kept : (scene : Scene) (m : Moment) (n : ℕ) (o : Option Program) (q : Option Thought)
-    → slice_get scene.programs n ≡ o → slice_get m.thoughts n ≡ q → HasHistories scene m
+turned_kept : (scene : Scene) (m : Moment) (n : ℕ) (o : Option Program) (q : Option Position)
+    → slice_get scene.programs n ≡ o → slice_get m.positions n ≡ q → HasHistories scene m
     → HasHistories scene (turned scene m n o q)
 turned_kept scene m n None q e g f = f
 turned_kept scene m n (Some p) None e g f = f
 turned_kept scene m n (Some p) (Some t) e g f = record {
   even = (law_step_grows scene n p m.state t).1 ∙ f.even;
-  thoughts = length-set m.thoughts n (step_task scene n p m.state t).thought ∙ f.thoughts;
+  positions = length-set m.positions n (step_task scene n p m.state t).position ∙ f.positions;
   rise = law_step_rises scene n p m.state t f.even f.rise;
   signed = law_step_signs scene n (length scene.programs) p m.state t f.even
       (slice_get_within scene.programs n p e) f.signed;
-  tasks = λ k p2 t2 hp ht. at k p2 t2 hp (set_parts m.thoughts n k
-      (step_task scene n p m.state t).thought t2 ht (slice_get_within m.thoughts n t g));
+  tasks = λ k p2 t2 hp ht. at k p2 t2 hp (set_parts m.positions n k
+      (step_task scene n p m.state t).position t2 ht (slice_get_within m.positions n t g));
 } where
-  at : (k : ℕ) (p2 : Program) (t2 : Thought) → slice_get scene.programs k ≡ Some p2
-      → ((k ≡ n) × (t2 ≡ (step_task scene n p m.state t).thought))
-      ⊎ ((n ≢ k) × (slice_get m.thoughts k ≡ Some t2))
+  at : (k : ℕ) (p2 : Program) (t2 : Position) → slice_get scene.programs k ≡ Some p2
+      → ((k ≡ n) × (t2 ≡ (step_task scene n p m.state t).position))
+      ⊎ ((n ≢ k) × (slice_get m.positions k ≡ Some t2))
       → HasMade scene (step_task scene n p m.state t).state k p2 t2
   at k p2 t2 hp (inl x) =
       let same : p ≡ p2 = same_Some p p2 (sym e ∙ ap (slice_get scene.programs) (sym x.0) ∙ hp) in
       subst (λ (j : ℕ). HasMade scene (step_task scene n p m.state t).state j p2 t2) (sym x.0)
-      (subst (λ (y : Thought). HasMade scene (step_task scene n p m.state t).state n p2 y) (sym x.1)
-      (subst (λ (y : Program). HasMade scene (step_task scene n p m.state t).state n y
-      (step_task scene n p m.state t).thought) same
+      (subst (λ (y : Position). HasMade scene (step_task scene n p m.state t).state n p2 y)
+      (sym x.1) (subst (λ (y : Program). HasMade scene (step_task scene n p m.state t).state n y
+      (step_task scene n p m.state t).position) same
       (after_own scene n p m.state t f.even (f.tasks n p t e g))))
   at k p2 t2 hp (inr x) =
       after_other scene n k p p2 m.state t t2 f.even (λ y. x.0 (sym y)) (f.tasks k p2 t2 hp x.1)
@@ -81,7 +81,7 @@ turns_kept : (scene : Scene) (m : Moment) (turns : List ℕ) → HasHistories sc
 turns_kept scene m [] f = f
 turns_kept scene m (n ∷ ns) f =
     turns_kept scene (turn scene m n) ns (turned_kept scene m n (slice_get scene.programs n)
-    (slice_get m.thoughts n) refl refl f)
+    (slice_get m.positions n) refl refl f)
 
 -- ---- the start
 
@@ -96,7 +96,7 @@ newborn_none n script_file =
 start_kept : (scene : Scene) → HasHistories scene (start_of scene)
 start_kept scene = record {
   even = length-map scene.script_files newborn;
-  thoughts = length-map scene.programs (λ (p : Program). start);
+  positions = length-map scene.programs (λ (p : Program). start);
   rise = λ i journal h.
       let x = get_map newborn scene.script_files i journal h in
       subst (λ (l : List Event). ScriptFileRules (length scene.rules) l []) x.2
@@ -131,7 +131,7 @@ start_kept scene = record {
 served_at : (scene : Scene) (m : Moment) → HasHistories scene m → Served scene (run_at m)
 served_at scene m f = record {
   journals = f.even;
-  thoughts = f.thoughts;
+  positions = f.positions;
   tasks = λ n p t e g.
       let c : HasMade scene m.state n p t = f.tasks n p t e g in
       record {

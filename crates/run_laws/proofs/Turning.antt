@@ -19,19 +19,19 @@ use Rattle.inode_events.specs.declared.deed.Deed.TheVariants as deed
 use Rattle.inode_events.specs.declared.told.Event.{Event}
 use Rattle.inode_events.specs.declared.told.Told.{Told}
 use Rattle.inode_events.specs.declared.told.Told.TheVariants as told
-use Rattle.run_model.specs.steps.Mind.{Step}
-use Rattle.run_model.specs.steps.Mind.{Nothing, Does, Checks, Signals, Appends}
-use Rattle.run_model.specs.steps.Mind.{Mind, Progress, ask_of, deed_of, plain_step, progress_of, step_by}
+use Rattle.run_model.specs.steps.CallState.{Step}
+use Rattle.run_model.specs.steps.CallState.{Nothing, Does, Checks, Signals, Appends}
+use Rattle.run_model.specs.steps.CallState.{CallState, Progress, ask_of, deed_of, plain_step, progress_of, step_by}
 use Rattle.run_model.specs.steps.declared.ask.Ask.{Ask}
 use Rattle.run_model.specs.steps.declared.ask.Ask.TheVariants as ask
 use Rattle.run_model.specs.steps.declared.call.Call.{Call}
 use Rattle.run_model.specs.steps.declared.call.Call.TheVariants as call
-use Rattle.run_model.specs.History.{Answer, Thought, call_at, event, plain_answer, start, step_at, step_in, thought, who_at}
+use Rattle.run_model.specs.History.{Answer, Position, call_at, event, plain_answer, position, start, step_at, step_in, who_at}
 use Rattle.run_model.specs.Scene.{Program, Scene, ScriptFile, decided, inode_of, mode_of, rules_with}
-use Rattle.run_model.specs.Turns.{Moment, State, hear_told, journal_at, newborn, run_at, start_of, state_on, step_check, step_does, step_due, step_task, turn, turned, turns_of}
+use Rattle.run_model.specs.Turns.{Moment, State, journal_at, newborn, resume_told, run_at, start_of, state_on, step_check, step_does, step_due, step_task, turn, turned, turns_of}
 use Rattle.run_model.specs.rules.declared.cell.RuleEntry.{RuleEntry}
 use Rattle.run_laws.specs.Checks.{ChecksFit, IsPlainStep, JournalsGrow, Longer, SeesMore, seen_of}
-use Rattle.run_laws.specs.Moments.{FitIsSuited, HasChecks, HasSuited, IsFit, ScriptFilesRise, StepFits, StepGrows, StepHears, StepRises, TurnFits, TurnsAreFit, answers_to, answers_told, check_answers, does_answers, history_after, seen_in}
+use Rattle.run_laws.specs.Moments.{FitIsSuited, HasChecks, HasSuited, IsFit, ScriptFilesRise, StepFits, StepGrows, StepResumes, StepRises, TurnFits, TurnsAreFit, answers_to, answers_told, check_answers, does_answers, history_after, seen_in}
 use Rattle.run_laws.specs.ScriptFiles.{CountsAll, ScriptFileRules}
 use Rattle.run_laws.proofs.Checking.{law_fits_are_suited, law_fits_at_first, law_fits_by_check, law_fits_by_step, law_fits_with_more, rules_count}
 use Rattle.run_laws.proofs.Risen.{law_rise_at_first, law_rise_by_look, law_rise_by_outcome}
@@ -77,29 +77,29 @@ journals_same js k journal h = record { longer = journal; there = h; before = pr
 
 -- ---- the task after a turn
 
-heard_told : (scene : Scene) (p : Program) (h : List Answer) (place : ℕ) (action : Action)
+resumed_told : (scene : Scene) (p : Program) (h : List Answer) (place : ℕ) (action : Action)
     (rules : ℕ) (o : Option Told)
-    → hear_told (mode_of scene) p (thought (mode_of scene) p h) place action rules o
-    ≡ thought (mode_of scene) p (answers_told place action rules o ++ h)
-heard_told scene p h place action rules None = refl
-heard_told scene p h place action rules (Some t) = refl
+    → resume_told (mode_of scene) p (position (mode_of scene) p h) place action rules o
+    ≡ position (mode_of scene) p (answers_told place action rules o ++ h)
+resumed_told scene p h place action rules None = refl
+resumed_told scene p h place action rules (Some t) = refl
 
-does_hears : (scene : Scene) (n : ℕ) (p : Program) (s : State) (h : List Answer) (i : ℕ)
+does_resumes : (scene : Scene) (n : ℕ) (p : Program) (s : State) (h : List Answer) (i : ℕ)
     (o : Option ScriptFile) (d : Deed)
-    → (step_does scene n p s (thought (mode_of scene) p h) i o d).thought
-    ≡ thought (mode_of scene) p (does_answers scene s i o d ++ h)
-does_hears scene n p s h i None d = refl
-does_hears scene n p s h i (Some script_file) d =
-    heard_told scene p h (length (journal_at s i)) no_action 0
+    → (step_does scene n p s (position (mode_of scene) p h) i o d).position
+    ≡ position (mode_of scene) p (does_answers scene s i o d ++ h)
+does_resumes scene n p s h i None d = refl
+does_resumes scene n p s h i (Some script_file) d =
+    resumed_told scene p h (length (journal_at s i)) no_action 0
     (outcome (inode_of scene script_file) s.list d (newest_first (journal_at s i)))
 
-check_hears : (scene : Scene) (n : ℕ) (p : Program) (s : State) (h : List Answer) (i : ℕ)
+check_resumes : (scene : Scene) (n : ℕ) (p : Program) (s : State) (h : List Answer) (i : ℕ)
     (o : Option ScriptFile) (file : ℕ) (func : Func) (mask : ℕ)
-    → (step_check scene n p s (thought (mode_of scene) p h) i o file func mask).thought
-    ≡ thought (mode_of scene) p (check_answers scene p s i o file func mask ++ h)
-check_hears scene n p s h i None file func mask = refl
-check_hears scene n p s h i (Some script_file) file func mask =
-    heard_told scene p h (length (journal_at s i))
+    → (step_check scene n p s (position (mode_of scene) p h) i o file func mask).position
+    ≡ position (mode_of scene) p (check_answers scene p s i o file func mask ++ h)
+check_resumes scene n p s h i None file func mask = refl
+check_resumes scene n p s h i (Some script_file) file func mask =
+    resumed_told scene p h (length (journal_at s i))
     (decided (rules_with scene s.added) p.cred script_file.place
     (metadata (newest_first (journal_at s i))) func mask) (length (rules_with scene s.added))
     (outcome (inode_of scene script_file) s.list
@@ -107,22 +107,23 @@ check_hears scene n p s h i (Some script_file) file func mask =
     (metadata (newest_first (journal_at s i))) func mask) (length (rules_with scene s.added)))
     (newest_first (journal_at s i)))
 
-step_hears : (scene : Scene) (n : ℕ) (p : Program) (s : State) (h : List Answer) (o : Option Step)
-    → (step_due scene n p s (thought (mode_of scene) p h) o).thought
-    ≡ thought (mode_of scene) p (answers_to scene p s o ++ h)
-step_hears scene n p s h None = refl
-step_hears scene n p s h (Some Nothing) = refl
-step_hears scene n p s h (Some (Does i d)) =
-    does_hears scene n p s h i (slice_get scene.script_files i) d
-step_hears scene n p s h (Some (Checks i file func mask)) =
-    check_hears scene n p s h i (slice_get scene.script_files i) file func mask
-step_hears scene n p s h (Some (Signals d)) =
-    heard_told scene p h (length s.signals) no_action 0 (semaphore_says (newest_first s.signals) d)
-step_hears scene n p s h (Some (Appends rule)) = refl
+step_resumes : (scene : Scene) (n : ℕ) (p : Program) (s : State) (h : List Answer) (o : Option Step)
+    → (step_due scene n p s (position (mode_of scene) p h) o).position
+    ≡ position (mode_of scene) p (answers_to scene p s o ++ h)
+step_resumes scene n p s h None = refl
+step_resumes scene n p s h (Some Nothing) = refl
+step_resumes scene n p s h (Some (Does i d)) =
+    does_resumes scene n p s h i (slice_get scene.script_files i) d
+step_resumes scene n p s h (Some (Checks i file func mask)) =
+    check_resumes scene n p s h i (slice_get scene.script_files i) file func mask
+step_resumes scene n p s h (Some (Signals d)) =
+    resumed_told scene p h (length s.signals) no_action 0
+    (semaphore_says (newest_first s.signals) d)
+step_resumes scene n p s h (Some (Appends rule)) = refl
 
-pub law_step_hears : StepHears
-law_step_hears scene n p s h =
-    step_hears scene n p s h (step_at p (thought (mode_of scene) p h).mind)
+pub law_step_resumes : StepResumes
+law_step_resumes scene n p s h =
+    step_resumes scene n p s h (step_at p (position (mode_of scene) p h).call_state)
 
 -- ---- the lists after a turn
 
@@ -139,19 +140,19 @@ event_grows s i inode who d o = (
   length-set s.journals i (journal_at s i ++ made who d o),
 )
 
-does_grows : (scene : Scene) (n : ℕ) (p : Program) (s : State) (t : Thought) (i : ℕ)
+does_grows : (scene : Scene) (n : ℕ) (p : Program) (s : State) (t : Position) (i : ℕ)
     (o : Option ScriptFile) (d : Deed) → Grows s (step_does scene n p s t i o d).state
 does_grows scene n p s t i None d = same_grows s
 does_grows scene n p s t i (Some script_file) d =
-    event_grows s i (inode_of scene script_file) (who_at n p t.mind) d
+    event_grows s i (inode_of scene script_file) (who_at n p t.call_state) d
     (outcome (inode_of scene script_file) s.list d (newest_first (journal_at s i)))
 
-check_grows : (scene : Scene) (n : ℕ) (p : Program) (s : State) (t : Thought) (i : ℕ)
+check_grows : (scene : Scene) (n : ℕ) (p : Program) (s : State) (t : Position) (i : ℕ)
     (o : Option ScriptFile) (file : ℕ) (func : Func) (mask : ℕ)
     → Grows s (step_check scene n p s t i o file func mask).state
 check_grows scene n p s t i None file func mask = same_grows s
 check_grows scene n p s t i (Some script_file) file func mask =
-    event_grows s i (inode_of scene script_file) (who_at n p t.mind)
+    event_grows s i (inode_of scene script_file) (who_at n p t.call_state)
     (deed.Check file func (decided (rules_with scene s.added) p.cred script_file.place
     (metadata (newest_first (journal_at s i))) func mask) (length (rules_with scene s.added)))
     (outcome (inode_of scene script_file) s.list
@@ -159,7 +160,7 @@ check_grows scene n p s t i (Some script_file) file func mask =
     (metadata (newest_first (journal_at s i))) func mask) (length (rules_with scene s.added)))
     (newest_first (journal_at s i)))
 
-step_grows : (scene : Scene) (n : ℕ) (p : Program) (s : State) (t : Thought) (o : Option Step)
+step_grows : (scene : Scene) (n : ℕ) (p : Program) (s : State) (t : Position) (o : Option Step)
     → Grows s (step_due scene n p s t o).state
 step_grows scene n p s t None = same_grows s
 step_grows scene n p s t (Some Nothing) = same_grows s
@@ -172,13 +173,13 @@ step_grows scene n p s t (Some (Signals d)) =
 step_grows scene n p s t (Some (Appends rule)) = (
   record {
     journals = journals_same s.journals;
-    added = prefix_append s.added (record { who = who_at n p t.mind; rule = rule } ∷ []);
+    added = prefix_append s.added (record { who = who_at n p t.call_state; rule = rule } ∷ []);
   },
   refl,
 )
 
 pub law_step_grows : StepGrows
-law_step_grows scene n p s t = step_grows scene n p s t (step_at p t.mind)
+law_step_grows scene n p s t = step_grows scene n p s t (step_at p t.call_state)
 
 -- ---- the task's checks after a turn
 
@@ -187,8 +188,8 @@ FitsAfter scene p h new answers = ChecksFit scene p (seen_in new) (answers ++ h)
 
 does_told : (scene : Scene) (p : Program) (s new : State) (h : List Answer) (i : ℕ) (d : Deed)
     (place : ℕ) (o : Option Told) → Grows s new
-    → step_at p (thought (mode_of scene) p h).mind ≡ Some (Does i d) → i < length scene.script_files
-    → ChecksFit scene p (seen_in s) h
+    → step_at p (position (mode_of scene) p h).call_state ≡ Some (Does i d)
+    → i < length scene.script_files → ChecksFit scene p (seen_in s) h
     → FitsAfter scene p h new (answers_told place no_action 0 o)
 does_told scene p s new h i d place None g at l f =
     law_fits_with_more scene p (seen_in s) (seen_in new) h g.0 f
@@ -199,21 +200,21 @@ does_told scene p s new h i d place (Some t) g at l f =
 
 does_fits : (scene : Scene) (n : ℕ) (p : Program) (s : State) (h : List Answer) (i : ℕ)
     (o : Option ScriptFile) (d : Deed) → slice_get scene.script_files i ≡ o
-    → step_at p (thought (mode_of scene) p h).mind ≡ Some (Does i d)
+    → step_at p (position (mode_of scene) p h).call_state ≡ Some (Does i d)
     → ChecksFit scene p (seen_in s) h
-    → FitsAfter scene p h (step_does scene n p s (thought (mode_of scene) p h) i o d).state
+    → FitsAfter scene p h (step_does scene n p s (position (mode_of scene) p h) i o d).state
     (does_answers scene s i o d)
 does_fits scene n p s h i None d q at f = f
 does_fits scene n p s h i (Some script_file) d q at f =
-    does_told scene p s (step_does scene n p s (thought (mode_of scene) p h) i
+    does_told scene p s (step_does scene n p s (position (mode_of scene) p h) i
     (Some script_file) d).state h i d (length (journal_at s i))
     (outcome (inode_of scene script_file) s.list d (newest_first (journal_at s i)))
-    (does_grows scene n p s (thought (mode_of scene) p h) i (Some script_file) d) at
+    (does_grows scene n p s (position (mode_of scene) p h) i (Some script_file) d) at
     (slice_get_within scene.script_files i script_file q) f
 
 check_told : (scene : Scene) (p : Program) (s new : State) (h : List Answer) (i file : ℕ)
     (func : Func) (mask : ℕ) (script_file : ScriptFile) (o : Option Told) → Grows s new
-    → new.added ≡ s.added → step_at p (thought (mode_of scene) p h).mind
+    → new.added ≡ s.added → step_at p (position (mode_of scene) p h).call_state
     ≡ Some (Checks i file func mask) → slice_get scene.script_files i ≡ Some script_file
     → i < length s.journals
     → ChecksFit scene p (seen_in s) h
@@ -236,27 +237,27 @@ check_told scene p s new h i file func mask script_file (Some t) g e at q l f =
 
 check_fits : (scene : Scene) (n : ℕ) (p : Program) (s : State) (h : List Answer) (i file : ℕ)
     (func : Func) (mask : ℕ) (o : Option ScriptFile) → slice_get scene.script_files i ≡ o
-    → step_at p (thought (mode_of scene) p h).mind ≡ Some (Checks i file func mask)
+    → step_at p (position (mode_of scene) p h).call_state ≡ Some (Checks i file func mask)
     → length s.journals ≡ length scene.script_files → ChecksFit scene p (seen_in s) h
     → FitsAfter scene p h (step_check scene n p s
-    (thought (mode_of scene) p h) i o file func mask).state
+    (position (mode_of scene) p h) i o file func mask).state
     (check_answers scene p s i o file func mask)
 check_fits scene n p s h i file func mask None q at even f = f
 check_fits scene n p s h i file func mask (Some script_file) q at even f =
     let within : i < length scene.script_files =
     slice_get_within scene.script_files i script_file q in
-    check_told scene p s (step_check scene n p s (thought (mode_of scene) p h) i
+    check_told scene p s (step_check scene n p s (position (mode_of scene) p h) i
     (Some script_file) file func mask).state h i file func mask script_file
     (outcome (inode_of scene script_file) s.list
     (deed.Check file func (decided (rules_with scene s.added) p.cred script_file.place
     (metadata (newest_first (journal_at s i))) func mask) (length (rules_with scene s.added)))
     (newest_first (journal_at s i)))
-    (check_grows scene n p s (thought (mode_of scene) p h) i
+    (check_grows scene n p s (position (mode_of scene) p h) i
     (Some script_file) file func mask) refl at q (omega arith) f
 
 signal_fits : (scene : Scene) (p : Program) (s new : State) (h : List Answer) (d : Deed)
     (place : ℕ) → Grows s new
-    → step_at p (thought (mode_of scene) p h).mind ≡ Some (Signals d)
+    → step_at p (position (mode_of scene) p h).call_state ≡ Some (Signals d)
     → ChecksFit scene p (seen_in s) h
     → (e : List Event) → FitsAfter scene p h new
     (answers_told place no_action 0 (semaphore_says e d))
@@ -282,9 +283,9 @@ signal_fits scene p s new h d place g at f e = by d refl where
   by c q = none
 
 step_fits : (scene : Scene) (n : ℕ) (p : Program) (s : State) (h : List Answer) (o : Option Step)
-    → step_at p (thought (mode_of scene) p h).mind ≡ o
+    → step_at p (position (mode_of scene) p h).call_state ≡ o
     → length s.journals ≡ length scene.script_files → ChecksFit scene p (seen_in s) h
-    → FitsAfter scene p h (step_due scene n p s (thought (mode_of scene) p h) o).state
+    → FitsAfter scene p h (step_due scene n p s (position (mode_of scene) p h) o).state
     (answers_to scene p s o)
 step_fits scene n p s h None at even f = f
 step_fits scene n p s h (Some Nothing) at even f =
@@ -297,38 +298,47 @@ step_fits scene n p s h (Some (Does i d)) at even f =
 step_fits scene n p s h (Some (Checks i file func mask)) at even f =
     check_fits scene n p s h i file func mask (slice_get scene.script_files i) refl at even f
 step_fits scene n p s h (Some (Signals d)) at even f =
-    signal_fits scene p s (step_due scene n p s (thought (mode_of scene) p h)
+    signal_fits scene p s (step_due scene n p s (position (mode_of scene) p h)
     (Some (Signals d))).state h d (length s.signals)
-    (step_grows scene n p s (thought (mode_of scene) p h) (Some (Signals d))) at f
+    (step_grows scene n p s (position (mode_of scene) p h) (Some (Signals d))) at f
     (newest_first s.signals)
 step_fits scene n p s h (Some (Appends rule)) at even f =
     let r : RuleEntry =
-    record { who = who_at n p (thought (mode_of scene) p h).mind; rule = rule } in
+    record { who = who_at n p (position (mode_of scene) p h).call_state; rule = rule } in
     law_fits_by_step scene p (seen_in s) (record {
       journals = s.journals;
       added = s.added
-          ++ record { who = who_at n p (thought (mode_of scene) p h).mind; rule = rule } ∷ [];
+          ++ record {
+            who = who_at n p (position (mode_of scene) p h).call_state;
+            rule = rule;
+          } ∷ [];
     }) h
     (plain_answer (length s.added) told.Done)
-    (step_grows scene n p s (thought (mode_of scene) p h) (Some (Appends rule))).0 f
+    (step_grows scene n p s (position (mode_of scene) p h) (Some (Appends rule))).0 f
     (subst (λ (o : Option Step). IsPlainStep scene
     (record {
       journals = s.journals;
       added = s.added
-          ++ record { who = who_at n p (thought (mode_of scene) p h).mind; rule = rule } ∷ [];
+          ++ record {
+            who = who_at n p (position (mode_of scene) p h).call_state;
+            rule = rule;
+          } ∷ [];
     }) o
     (plain_answer (length s.added) told.Done)) (sym at) (
       refl,
       omega (
         arith,
         length-append s.added
-            (record { who = who_at n p (thought (mode_of scene) p h).mind; rule = rule } ∷ []),
+            (record {
+              who = who_at n p (position (mode_of scene) p h).call_state;
+              rule = rule;
+            } ∷ []),
       ),
     ))
 
 pub law_step_fits : StepFits
 law_step_fits scene n p s h even f =
-    step_fits scene n p s h (step_at p (thought (mode_of scene) p h).mind) refl even f
+    step_fits scene n p s h (step_at p (position (mode_of scene) p h).call_state) refl even f
 
 -- ---- the rules along the journals
 
@@ -382,7 +392,7 @@ step_no_check admin c g ask.CloseChunk = λ count. tt
 step_no_check admin c g ask.CloseFinish = λ count. tt
 step_no_check admin c g ask.Plain = plain_no_check admin c
 
-no_check : (p : Program) (m : Mind) (o : Option Call) (i : ℕ) (d : Deed)
+no_check : (p : Program) (m : CallState) (o : Option Call) (i : ℕ) (d : Deed)
     → step_in p o m ≡ Some (Does i d) → NoCheck (Does i d)
 no_check p m None i d h = absurd (cc)
 no_check p m (Some c) i d h =
@@ -390,7 +400,7 @@ no_check p m (Some c) i d h =
     (step_no_check p.cred.admin c (progress_of p.cred.admin c m)
     (progress_of p.cred.admin c m).due.ask)
 
-does_rises : (scene : Scene) (n : ℕ) (p : Program) (s : State) (t : Thought) (i : ℕ)
+does_rises : (scene : Scene) (n : ℕ) (p : Program) (s : State) (t : Position) (i : ℕ)
     (o : Option ScriptFile) (d : Deed) → slice_get scene.script_files i ≡ o
     → length s.journals ≡ length scene.script_files → ((count : ℕ) → CountsAll count d)
     → ScriptFilesRise scene s → ScriptFilesRise scene (step_does scene n p s t i o d).state
@@ -398,11 +408,11 @@ does_rises scene n p s t i None d q even c r = r
 does_rises scene n p s t i (Some script_file) d q even c r =
     let within : i < length scene.script_files =
     slice_get_within scene.script_files i script_file q in
-    event_rises scene s i (inode_of scene script_file) (who_at n p t.mind) d
+    event_rises scene s i (inode_of scene script_file) (who_at n p t.call_state) d
     (outcome (inode_of scene script_file) s.list d (newest_first (journal_at s i))) (omega arith)
     (c (length scene.rules + length s.added)) r
 
-check_rises : (scene : Scene) (n : ℕ) (p : Program) (s : State) (t : Thought) (i : ℕ)
+check_rises : (scene : Scene) (n : ℕ) (p : Program) (s : State) (t : Position) (i : ℕ)
     (o : Option ScriptFile) (file : ℕ) (func : Func) (mask : ℕ) → slice_get scene.script_files i ≡ o
     → length s.journals ≡ length scene.script_files → ScriptFilesRise scene s
     → ScriptFilesRise scene (step_check scene n p s t i o file func mask).state
@@ -410,7 +420,7 @@ check_rises scene n p s t i None file func mask q even r = r
 check_rises scene n p s t i (Some script_file) file func mask q even r =
     let within : i < length scene.script_files =
     slice_get_within scene.script_files i script_file q in
-    event_rises scene s i (inode_of scene script_file) (who_at n p t.mind)
+    event_rises scene s i (inode_of scene script_file) (who_at n p t.call_state)
     (deed.Check file func (decided (rules_with scene s.added) p.cred script_file.place
     (metadata (newest_first (journal_at s i))) func mask) (length (rules_with scene s.added)))
     (outcome (inode_of scene script_file) s.list
@@ -419,39 +429,42 @@ check_rises scene n p s t i (Some script_file) file func mask q even r =
     (newest_first (journal_at s i)))
     (omega arith) (rules_count scene s.added) r
 
-step_rises : (scene : Scene) (n : ℕ) (p : Program) (s : State) (t : Thought) (o : Option Step)
-    → step_at p t.mind ≡ o → length s.journals ≡ length scene.script_files
+step_rises : (scene : Scene) (n : ℕ) (p : Program) (s : State) (t : Position) (o : Option Step)
+    → step_at p t.call_state ≡ o → length s.journals ≡ length scene.script_files
     → ScriptFilesRise scene s → ScriptFilesRise scene (step_due scene n p s t o).state
 step_rises scene n p s t None at even r = r
 step_rises scene n p s t (Some Nothing) at even r = r
 step_rises scene n p s t (Some (Does i d)) at even r =
     does_rises scene n p s t i (slice_get scene.script_files i) d refl even
-    (no_check p t.mind (call_at p t.mind) i d at) r
+    (no_check p t.call_state (call_at p t.call_state) i d at) r
 step_rises scene n p s t (Some (Checks i file func mask)) at even r =
     check_rises scene n p s t i (slice_get scene.script_files i) file func mask refl even r
 step_rises scene n p s t (Some (Signals d)) at even r = r
 step_rises scene n p s t (Some (Appends rule)) at even r = λ k journal h.
     law_rise_by_look (length scene.rules) journal s.added
-    (s.added ++ record { who = who_at n p t.mind; rule = rule } ∷ [])
-    (prefix_append s.added (record { who = who_at n p t.mind; rule = rule } ∷ [])) (r k journal h)
+    (s.added ++ record { who = who_at n p t.call_state; rule = rule } ∷ [])
+    (prefix_append s.added (record {
+      who = who_at n p t.call_state;
+      rule = rule;
+    } ∷ [])) (r k journal h)
 
 pub law_step_rises : StepRises
-law_step_rises scene n p s t even r = step_rises scene n p s t (step_at p t.mind) refl even r
+law_step_rises scene n p s t even r = step_rises scene n p s t (step_at p t.call_state) refl even r
 
 -- ---- a turn of a moment
 
-after_go : (scene : Scene) (n : ℕ) (p : Program) (s : State) (t : Thought)
+after_go : (scene : Scene) (n : ℕ) (p : Program) (s : State) (t : Position)
     → length s.journals ≡ length scene.script_files → HasChecks scene s p t
-    → HasChecks scene (step_task scene n p s t).state p (step_task scene n p s t).thought
+    → HasChecks scene (step_task scene n p s t).state p (step_task scene n p s t).position
 after_go scene n p s t even c =
-    subst (λ (x : Thought). HasChecks scene (step_task scene n p s x).state p
-    (step_task scene n p s x).thought) c.stands (record {
+    subst (λ (x : Position). HasChecks scene (step_task scene n p s x).state p
+    (step_task scene n p s x).position) c.stands (record {
       history = history_after scene p s c.history;
-      stands = sym (law_step_hears scene n p s c.history);
+      stands = sym (law_step_resumes scene n p s c.history);
       fit = law_step_fits scene n p s c.history even c.fit;
     })
 
-after_other : (scene : Scene) (s new : State) (p : Program) (t : Thought)
+after_other : (scene : Scene) (s new : State) (p : Program) (t : Position)
     → SeesMore (seen_in s) (seen_in new) → HasChecks scene s p t → HasChecks scene new p t
 after_other scene s new p t m c =
     record {
@@ -460,26 +473,26 @@ after_other scene s new p t m c =
       fit = law_fits_with_more scene p (seen_in s) (seen_in new) c.history m c.fit;
     }
 
-turned_fits : (scene : Scene) (m : Moment) (n : ℕ) (o : Option Program) (q : Option Thought)
-    → slice_get scene.programs n ≡ o → slice_get m.thoughts n ≡ q → IsFit scene m
+turned_fits : (scene : Scene) (m : Moment) (n : ℕ) (o : Option Program) (q : Option Position)
+    → slice_get scene.programs n ≡ o → slice_get m.positions n ≡ q → IsFit scene m
     → IsFit scene (turned scene m n o q)
 turned_fits scene m n None q e g f = f
 turned_fits scene m n (Some p) None e g f = f
 turned_fits scene m n (Some p) (Some t) e g f = record {
   even = (law_step_grows scene n p m.state t).1 ∙ f.even;
   rise = law_step_rises scene n p m.state t f.even f.rise;
-  tasks = λ k p2 t2 hp ht. at k p2 t2 hp (set_cases m.thoughts n k
-      (step_task scene n p m.state t).thought t2 ht);
+  tasks = λ k p2 t2 hp ht. at k p2 t2 hp (set_cases m.positions n k
+      (step_task scene n p m.state t).position t2 ht);
 } where
-  at : (k : ℕ) (p2 : Program) (t2 : Thought) → slice_get scene.programs k ≡ Some p2
-      → ((k ≡ n) × (t2 ≡ (step_task scene n p m.state t).thought))
-      ⊎ (slice_get m.thoughts k ≡ Some t2)
+  at : (k : ℕ) (p2 : Program) (t2 : Position) → slice_get scene.programs k ≡ Some p2
+      → ((k ≡ n) × (t2 ≡ (step_task scene n p m.state t).position))
+      ⊎ (slice_get m.positions k ≡ Some t2)
       → HasChecks scene (step_task scene n p m.state t).state p2 t2
   at k p2 t2 hp (inl x) =
       let same : p ≡ p2 = same_Some p p2 (sym e ∙ ap (slice_get scene.programs) (sym x.0) ∙ hp) in
-      subst (λ (y : Thought). HasChecks scene (step_task scene n p m.state t).state p2 y) (sym x.1)
+      subst (λ (y : Position). HasChecks scene (step_task scene n p m.state t).state p2 y) (sym x.1)
       (subst (λ (y : Program). HasChecks scene (step_task scene n p m.state t).state y
-      (step_task scene n p m.state t).thought) same
+      (step_task scene n p m.state t).position) same
       (after_go scene n p m.state t f.even (f.tasks n p t e g)))
   at k p2 t2 hp (inr x) =
       after_other scene m.state (step_task scene n p m.state t).state p2 t2
@@ -487,7 +500,7 @@ turned_fits scene m n (Some p) (Some t) e g f = record {
 
 pub law_turn_fits : TurnFits
 law_turn_fits scene m n f =
-    turned_fits scene m n (slice_get scene.programs n) (slice_get m.thoughts n) refl refl f
+    turned_fits scene m n (slice_get scene.programs n) (slice_get m.positions n) refl refl f
 
 turns_fit : (scene : Scene) (m : Moment) (turns : List ℕ) → IsFit scene m
     → IsFit scene (turns_of scene m turns)
@@ -526,8 +539,8 @@ law_turns_are_fit scene turns = turns_fit scene (start_of scene) turns (start_fi
 pub run_sees : (m : Moment) → SeesMore (seen_in m.state) (seen_of (run_at m))
 run_sees m = record { journals = journals_same m.state.journals; added = prefix_refl m.state.added }
 
-suited_at : (scene : Scene) (m : Moment) → IsFit scene m → (n : ℕ) (p : Program) (t : Thought)
-    → slice_get scene.programs n ≡ Some p → slice_get m.thoughts n ≡ Some t → HasSuited scene m p t
+suited_at : (scene : Scene) (m : Moment) → IsFit scene m → (n : ℕ) (p : Program) (t : Position)
+    → slice_get scene.programs n ≡ Some p → slice_get m.positions n ≡ Some t → HasSuited scene m p t
 suited_at scene m f n p t e g =
     let c : HasChecks scene m.state p t = f.tasks n p t e g in
     record {

@@ -8,9 +8,9 @@ use Rattle.inode_events.specs.NewestFirst.{newest_first}
 use Rattle.inode_events.specs.State.{metadata}
 use Rattle.inode_events.specs.declared.told.Event.{Event}
 use Rattle.inode_events.specs.declared.told.Told.TheVariants as told
-use Rattle.run_model.specs.steps.Mind.{Step}
-use Rattle.run_model.specs.steps.Mind.{Nothing, Does, Checks, Signals, Appends}
-use Rattle.run_model.specs.History.{Answer, plain_answer, step_at, thought}
+use Rattle.run_model.specs.steps.CallState.{Step}
+use Rattle.run_model.specs.steps.CallState.{Nothing, Does, Checks, Signals, Appends}
+use Rattle.run_model.specs.History.{Answer, plain_answer, position, step_at}
 use Rattle.run_model.specs.Scene.{Program, Scene, ScriptFile, decided, mode_of, rules_with}
 use Rattle.run_model.specs.Served.{AreSuited, Run, rules_known}
 use Rattle.run_model.specs.rules.declared.cell.RuleEntry.{RuleEntry}
@@ -52,7 +52,7 @@ abbrev pub SuitIn : Scene → Seen → Program → List Answer → Type 0
 SuitIn scene s p [] = Unit {0}
 SuitIn scene s p (a ∷ before) =
     SuitsIn scene s p (rules_known scene p before)
-    (step_at p (thought (mode_of scene) p before).mind) a × SuitIn scene s p before
+    (step_at p (position (mode_of scene) p before).call_state) a × SuitIn scene s p before
 
 -- the task's checks fit: each was decided rightly according to what is seen now, and the rules that
 -- the task knows of are seen
@@ -100,7 +100,7 @@ abbrev pub FitsByStep : Type 0
 FitsByStep =
     (scene : Scene) (p : Program) (old new : Seen) (h : List Answer) (a : Answer)
     → SeesMore old new → ChecksFit scene p old h
-    → IsPlainStep scene new (step_at p (thought (mode_of scene) p h).mind) a
+    → IsPlainStep scene new (step_at p (position (mode_of scene) p h).call_state) a
     → ChecksFit scene p new (a ∷ h)
 
 -- the answer to a check that was decided by all rules that the task's pass has now seen, for the
@@ -120,7 +120,7 @@ abbrev pub FitsByCheck : Type 0
 FitsByCheck =
     (scene : Scene) (p : Program) (old new : Seen) (h : List Answer) (a : Answer) (inode file : ℕ)
     (func : Func) (mask : ℕ) → SeesMore old new → ChecksFit scene p old h
-    → step_at p (thought (mode_of scene) p h).mind ≡ Some (Checks inode file func mask)
+    → step_at p (position (mode_of scene) p h).call_state ≡ Some (Checks inode file func mask)
     → IsCheckStep scene new p a inode func mask → ChecksFit scene p new (a ∷ h)
 
 -- the journals and rules of a whole run

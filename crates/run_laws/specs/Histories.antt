@@ -2,7 +2,7 @@
 use Rattle.std.specs.Prelude.{◌≡◌, ◌≢◌, ℕ, ◌<◌, ◌≤◌, All, List, length, Some, slice_get}
 use Rattle.inode_events.specs.Callers.{caller_of}
 use Rattle.inode_events.specs.declared.told.Event.{Event}
-use Rattle.run_model.specs.History.{Answer, Thought, own, own_rules, thought}
+use Rattle.run_model.specs.History.{Answer, Position, own, own_rules, position}
 use Rattle.run_model.specs.Scene.{Program, Scene, mode_of}
 use Rattle.run_model.specs.Rounds.{IsRunOf}
 use Rattle.run_model.specs.Served.{Run, Served, events_of, rules_of}
@@ -28,32 +28,32 @@ pub record AreSigned (count : ℕ) (s : State) : Type 0 where
 abbrev pub StepOwns : Type 0
 StepOwns = (scene : Scene) (n : ℕ) (p : Program) (s : State) (h : List Answer)
     → length s.journals ≡ length scene.script_files → Owns scene n p s h
-    → Owns scene n p (step_task scene n p s (thought (mode_of scene) p h)).state
+    → Owns scene n p (step_task scene n p s (position (mode_of scene) p h)).state
     (history_after scene p s h)
 
 abbrev pub StepLeaves : Type 0
-StepLeaves = (scene : Scene) (n k : ℕ) (p q : Program) (s : State) (t : Thought) (h : List Answer)
+StepLeaves = (scene : Scene) (n k : ℕ) (p q : Program) (s : State) (t : Position) (h : List Answer)
     → length s.journals ≡ length scene.script_files → k ≢ n → Owns scene k q s h
     → Owns scene k q (step_task scene n p s t).state h
 
 abbrev pub StepSigns : Type 0
-StepSigns = (scene : Scene) (n count : ℕ) (p : Program) (s : State) (t : Thought)
+StepSigns = (scene : Scene) (n count : ℕ) (p : Program) (s : State) (t : Position)
     → length s.journals ≡ length scene.script_files → n < count → AreSigned count s
     → AreSigned count (step_task scene n p s t).state
 
-pub record HasMade (scene : Scene) (s : State) (n : ℕ) (p : Program) (t : Thought) : Type 0 where
+pub record HasMade (scene : Scene) (s : State) (n : ℕ) (p : Program) (t : Position) : Type 0 where
   pub history : List Answer
-  pub stands : thought (mode_of scene) p history ≡ t
+  pub stands : position (mode_of scene) p history ≡ t
   pub fit : ChecksFit scene p (seen_in s) history
   pub owns : Owns scene n p s history
 
 pub record HasHistories (scene : Scene) (m : Moment) : Type 0 where
   pub even : length m.state.journals ≡ length scene.script_files
-  pub thoughts : length m.thoughts ≡ length scene.programs
+  pub positions : length m.positions ≡ length scene.programs
   pub rise : ScriptFilesRise scene m.state
   pub signed : AreSigned (length scene.programs) m.state
-  pub tasks : (n : ℕ) (p : Program) (t : Thought) → slice_get scene.programs n ≡ Some p
-      → slice_get m.thoughts n ≡ Some t → HasMade scene m.state n p t
+  pub tasks : (n : ℕ) (p : Program) (t : Position) → slice_get scene.programs n ≡ Some p
+      → slice_get m.positions n ≡ Some t → HasMade scene m.state n p t
 
 abbrev pub TurnsAreServed : Type 0
 TurnsAreServed =

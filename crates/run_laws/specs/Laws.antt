@@ -15,7 +15,7 @@ use Rattle.inode_events.specs.Merged.{IsMerged, Journal}
 use Rattle.inode_events.specs.declared.deed.Deed.{Deed}
 use Rattle.inode_events.specs.declared.told.Event.{Event}
 use Rattle.inode_events.specs.declared.told.Told.{Told}
-use Rattle.run_model.specs.History.{Answer, own, thought, who_at}
+use Rattle.run_model.specs.History.{Answer, own, position, who_at}
 use Rattle.run_model.specs.Scene.{Program, Scene}
 use Rattle.run_model.specs.Served.{Run, Served}
 use Rattle.run_model.specs.Shown.{journals_of}
@@ -47,7 +47,7 @@ LogIsOwn = (mode : Mode) (n : ℕ) (p : Program) (i : ℕ) (h : List Answer)
 -- is due
 abbrev pub LogIsOrdered : Type 0
 LogIsOrdered = (mode : Mode) (n : ℕ) (p : Program) (h : List Answer)
-    → OrderedBefore (log mode n p h) (who_at n p (thought mode p h).mind)
+    → OrderedBefore (log mode n p h) (who_at n p (position mode p h).call_state)
 
 -- ---- the end
 

@@ -3,9 +3,9 @@ use Rattle.std.specs.Prelude.{◌≡◌, ℕ, List, [], ◌∷◌, ◌++◌, Opt
 use Rattle.inode_meta.specs.declared.appraisal.Mode.{Mode}
 use Rattle.inode_meta.specs.declared.step.Who.{Who}
 use Rattle.inode_events.specs.declared.deed.Deed.TheVariants as deed
-use Rattle.run_model.specs.steps.Mind.{Step}
-use Rattle.run_model.specs.steps.Mind.{Does, Checks}
-use Rattle.run_model.specs.History.{Answer, Thought, step_at, thought, who_at}
+use Rattle.run_model.specs.steps.CallState.{Step}
+use Rattle.run_model.specs.steps.CallState.{Does, Checks}
+use Rattle.run_model.specs.History.{Answer, Position, position, step_at, who_at}
 use Rattle.run_model.specs.Scene.{Program, Scene, mode_of}
 use Rattle.run_model.specs.Served.{Run, Served}
 use Rattle.run_laws.specs.Steps.{Made, Rises, made_of}
@@ -21,11 +21,11 @@ logged who _ a = []
 abbrev pub log : Mode → ℕ → Program → List Answer → List Made
 log mode n p [] = []
 log mode n p (a ∷ before) =
-    let m = (thought mode p before).mind in
+    let m = (position mode p before).call_state in
     logged (who_at n p m) (step_at p m) a ++ log mode n p before
 
 -- the places rise along the steps of each task
 abbrev pub RiseServed : (scene : Scene) (run : Run) → Served scene run → Type 0
-RiseServed scene run s = (n : ℕ) (p : Program) (t : Thought)
-    (a : slice_get scene.programs n ≡ Some p) (b : slice_get run.thoughts n ≡ Some t)
+RiseServed scene run s = (n : ℕ) (p : Program) (t : Position)
+    (a : slice_get scene.programs n ≡ Some p) (b : slice_get run.positions n ≡ Some t)
     → Rises (log (mode_of scene) n p (s.tasks n p t a b).history)

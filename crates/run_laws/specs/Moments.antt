@@ -12,9 +12,9 @@ use Rattle.inode_events.specs.declared.deed.Deed.TheVariants as deed
 use Rattle.inode_events.specs.declared.told.Event.{Event}
 use Rattle.inode_events.specs.declared.told.Told.{Told}
 use Rattle.inode_events.specs.declared.told.Told.TheVariants as told
-use Rattle.run_model.specs.steps.Mind.{Step}
-use Rattle.run_model.specs.steps.Mind.{Nothing, Does, Checks, Signals, Appends}
-use Rattle.run_model.specs.History.{Answer, Thought, plain_answer, step_at, thought}
+use Rattle.run_model.specs.steps.CallState.{Step}
+use Rattle.run_model.specs.steps.CallState.{Nothing, Does, Checks, Signals, Appends}
+use Rattle.run_model.specs.History.{Answer, Position, plain_answer, position, step_at}
 use Rattle.run_model.specs.Scene.{Program, Scene, ScriptFile, decided, inode_of, mode_of, rules_with}
 use Rattle.run_model.specs.Served.{AreSuited, RulesRise}
 use Rattle.run_model.specs.Turns.{Moment, State, journal_at, run_at, start_of, step_task, turn, turns_of}
@@ -57,7 +57,8 @@ answers_to scene p s (Some (Appends rule)) = plain_answer (length s.added) told.
 
 -- the history of the task after a turn, with the turn's answer if there is one
 abbrev pub history_after : Scene → Program → State → List Answer → List Answer
-history_after scene p s h = answers_to scene p s (step_at p (thought (mode_of scene) p h).mind) ++ h
+history_after scene p s h =
+    answers_to scene p s (step_at p (position (mode_of scene) p h).call_state) ++ h
 
 abbrev pub seen_in : State → Seen
 seen_in s = record { journals = s.journals; added = s.added }
@@ -70,39 +71,39 @@ ScriptFilesRise scene s =
 
 -- ---- one turn
 
-abbrev pub StepHears : Type 0
-StepHears = (scene : Scene) (n : ℕ) (p : Program) (s : State) (h : List Answer)
-    → (step_task scene n p s (thought (mode_of scene) p h)).thought
-    ≡ thought (mode_of scene) p (history_after scene p s h)
+abbrev pub StepResumes : Type 0
+StepResumes = (scene : Scene) (n : ℕ) (p : Program) (s : State) (h : List Answer)
+    → (step_task scene n p s (position (mode_of scene) p h)).position
+    ≡ position (mode_of scene) p (history_after scene p s h)
 
 abbrev pub StepGrows : Type 0
-StepGrows = (scene : Scene) (n : ℕ) (p : Program) (s : State) (t : Thought)
+StepGrows = (scene : Scene) (n : ℕ) (p : Program) (s : State) (t : Position)
     → SeesMore (seen_in s) (seen_in (step_task scene n p s t).state)
     × (length (step_task scene n p s t).state.journals ≡ length s.journals)
 
 abbrev pub StepFits : Type 0
 StepFits = (scene : Scene) (n : ℕ) (p : Program) (s : State) (h : List Answer)
     → length s.journals ≡ length scene.script_files → ChecksFit scene p (seen_in s) h
-    → ChecksFit scene p (seen_in (step_task scene n p s (thought (mode_of scene) p h)).state)
+    → ChecksFit scene p (seen_in (step_task scene n p s (position (mode_of scene) p h)).state)
     (history_after scene p s h)
 
 abbrev pub StepRises : Type 0
-StepRises = (scene : Scene) (n : ℕ) (p : Program) (s : State) (t : Thought)
+StepRises = (scene : Scene) (n : ℕ) (p : Program) (s : State) (t : Position)
     → length s.journals ≡ length scene.script_files → ScriptFilesRise scene s
     → ScriptFilesRise scene (step_task scene n p s t).state
 
 -- ---- a moment
 
-pub record HasChecks (scene : Scene) (s : State) (p : Program) (t : Thought) : Type 0 where
+pub record HasChecks (scene : Scene) (s : State) (p : Program) (t : Position) : Type 0 where
   pub history : List Answer
-  pub stands : thought (mode_of scene) p history ≡ t
+  pub stands : position (mode_of scene) p history ≡ t
   pub fit : ChecksFit scene p (seen_in s) history
 
 pub record IsFit (scene : Scene) (m : Moment) : Type 0 where
   pub even : length m.state.journals ≡ length scene.script_files
   pub rise : ScriptFilesRise scene m.state
-  pub tasks : (n : ℕ) (p : Program) (t : Thought) → slice_get scene.programs n ≡ Some p
-      → slice_get m.thoughts n ≡ Some t → HasChecks scene m.state p t
+  pub tasks : (n : ℕ) (p : Program) (t : Position) → slice_get scene.programs n ≡ Some p
+      → slice_get m.positions n ≡ Some t → HasChecks scene m.state p t
 
 abbrev pub TurnFits : Type 0
 TurnFits = (scene : Scene) (m : Moment) (n : ℕ) → IsFit scene m → IsFit scene (turn scene m n)
@@ -111,14 +112,14 @@ abbrev pub TurnsAreFit : Type 0
 TurnsAreFit = (scene : Scene) (turns : List ℕ) → IsFit scene (turns_of scene (start_of scene) turns)
 
 -- the answers of the task suit the run
-pub record HasSuited (scene : Scene) (m : Moment) (p : Program) (t : Thought) : Type 0 where
+pub record HasSuited (scene : Scene) (m : Moment) (p : Program) (t : Position) : Type 0 where
   pub history : List Answer
-  pub stands : thought (mode_of scene) p history ≡ t
+  pub stands : position (mode_of scene) p history ≡ t
   pub suited : AreSuited scene (run_at m) p history
 
 abbrev pub FitIsSuited : Type 0
 FitIsSuited = (scene : Scene) (m : Moment) → IsFit scene m
-    → ((n : ℕ) (p : Program) (t : Thought) → slice_get scene.programs n ≡ Some p
-    → slice_get m.thoughts n ≡ Some t → HasSuited scene m p t)
+    → ((n : ℕ) (p : Program) (t : Position) → slice_get scene.programs n ≡ Some p
+    → slice_get m.positions n ≡ Some t → HasSuited scene m p t)
     × All (λ (journal : List Event). RulesRise (length scene.rules) (newest_first journal))
     (run_at m).journals

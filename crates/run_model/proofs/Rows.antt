@@ -38,7 +38,7 @@ use Rattle.call_steps.specs.declared.call.Call.TheVariants as call
 use Rattle.call_steps.specs.declared.held.Handle.{Handle}
 use Rattle.call_steps.specs.declared.held.Name.TheVariants.{Descriptor}
 use Rattle.call_steps.specs.declared.reply.Reply.TheVariants as reply
-use Rattle.run_model.specs.History.{Answer, Thought, own, plain_answer, start}
+use Rattle.run_model.specs.History.{Answer, Position, own, plain_answer, start}
 use Rattle.run_model.specs.Rounds.{IsRunOf, round_moves, rounds}
 use Rattle.call_steps.specs.declared.ending.Ending.TheVariants as ending
 use Rattle.run_model.specs.Scene.{Program, Scene, ScriptFile}
@@ -176,17 +176,17 @@ opened placed =
 abbrev pub handle : Handle
 handle = record { name = Descriptor 0; inode = 0; file = 1; how = how.Read false }
 
-abbrev pub has_opened : Thought
+abbrev pub has_opened : Position
 has_opened =
     record {
-      mind = record { at = 1; progress = None; handles = handle ∷ [] };
+      call_state = record { at = 1; progress = None; handles = handle ∷ [] };
       replies = reply.Done
           ∷ [];
     }
 
-abbrev pub finishing : Thought
+abbrev pub finishing : Position
 finishing = record {
-  mind = record {
+  call_state = record {
     at = 0;
     progress = Some (record {
       due = record { ask = ask.Finish; reply = reply.Done };
@@ -200,11 +200,11 @@ finishing = record {
   replies = [];
 }
 
-abbrev pub moment : List Event → List Entry → List Thought → Moment
-moment journal list thoughts =
+abbrev pub moment : List Event → List Entry → List Position → Moment
+moment journal list positions =
     record {
       state = record { journals = journal ∷ []; list = list; signals = []; added = [] };
-      thoughts = thoughts;
+      positions = positions;
     }
 
 -- ---- a task opens, reads and closes
@@ -238,9 +238,9 @@ read =
     ∷ did (who 0 2 0) (deed.Close 1) told.Dropped
     ∷ []
 
-abbrev pub has_closed : Thought
+abbrev pub has_closed : Position
 has_closed = record {
-  mind = record { at = 3; progress = None; handles = [] };
+  call_state = record { at = 3; progress = None; handles = [] };
   replies = reply.Done ∷ reply.Bytes 3 (digest_of Sha256 image.content) ∷ reply.Done ∷ [];
 }
 
@@ -319,7 +319,7 @@ one_is_served = record {
   rules = refl;
 }
 
-one_tasks : (n : ℕ) (p : Program) (t : Thought) → slice_get (reader ∷ []) n ≡ Some p
+one_tasks : (n : ℕ) (p : Program) (t : Position) → slice_get (reader ∷ []) n ≡ Some p
     → slice_get (has_closed ∷ []) n ≡ Some t → IsServed one one_run n p t
 one_tasks zero p t e f =
     subst (λ q. IsServed one one_run 0 q t) (same_Some reader p e)
@@ -362,7 +362,7 @@ pub one_run_is_served : Served one one_run
 unfolding newest_first
 one_run_is_served = record {
   journals = refl;
-  thoughts = refl;
+  positions = refl;
   tasks = one_tasks;
   no_other_events = All-cons (All IsOfOne) read [] read_by (All-nil (All IsOfOne));
   no_other_rules = All-nil (λ r. r.who.task < 1);
@@ -454,9 +454,9 @@ met =
     ∷ did (who 1 0 1) (deed.Check 6 FileCheck no_action 1) (told.ToMToU 2)
     ∷ []
 
-abbrev pub has_written : Thought
+abbrev pub has_written : Position
 has_written = record {
-  mind = record {
+  call_state = record {
     at = 1;
     progress = None;
     handles = record {

@@ -34,7 +34,7 @@ use Rattle.call_steps.specs.declared.held.Name.TheVariants.{Descriptor}
 use Rattle.call_steps.specs.declared.reply.Reply.{Reply}
 use Rattle.call_steps.specs.declared.reply.Reply.TheVariants as reply
 use Rattle.policy_cell.specs.declared.cell.RuleEntry.{RuleEntry}
-use Rattle.run_model.specs.History.{Answer, Thought, event_in, own, plain_answer, step_at, thought, who_at}
+use Rattle.run_model.specs.History.{Answer, Position, event_in, own, plain_answer, position, step_at, who_at}
 use Rattle.run_model.specs.Scene.{Program, Scene, ScriptFile, decided, mode_of}
 use Rattle.run_model.specs.Served.{AreSuited, IsDecided, IsServed, Run, Served, final_rules}
 use Rattle.run_model.proofs.Rows.{boot, did, entry, has_opened, has_written, measure, opened, reading, root, rule, scene_with, script_file, two, who, writing}
@@ -66,7 +66,7 @@ own_begins : (mode : Mode) (n : ℕ) (p : Program) (i : ℕ) (later first : List
     → IsPrefix (own mode n p i first) (own mode n p i (later ++ first))
 own_begins mode n p i [] first = prefix_refl (own mode n p i first)
 own_begins mode n p i (a ∷ later) first =
-    let m = (thought mode p (later ++ first)).mind in
+    let m = (position mode p (later ++ first)).call_state in
     prefix_trans (own mode n p i first) (own mode n p i (later ++ first))
     (own mode n p i (later ++ first) ++ event_in i (who_at n p m) (step_at p m) a)
     (own_begins mode n p i later first)
@@ -119,7 +119,7 @@ run_with events =
       journals = (opened (Added 1) ++ events) ∷ [];
       list = boot ∷ entry ∷ violation_of ImaNg Sha256 script_file.path ∷ [];
       added = [];
-      thoughts = has_opened ∷ has_written ∷ [];
+      positions = has_opened ∷ has_written ∷ [];
     }
 
 -- the event that the writer's first answer makes
@@ -183,8 +183,8 @@ left_out_unserved served = at (served.tasks 1 writer has_written refl refl) wher
           ⊎ GoesOn s.history (held c.action c.rules ∷ []) → ⊥
       ends (inl e) =
           let none : [] ≡ reply.Done ∷ [] =
-          ap (λ (h : List Answer). (thought Off writer h).replies) (sym e)
-          ∙ ap (λ (t : Thought). t.replies) s.stands in
+          ap (λ (h : List Answer). (position Off writer h).replies) (sym e)
+          ∙ ap (λ (t : Position). t.replies) s.stands in
           cc
       ends (inr g) =
           none-some (check g.next)
@@ -321,9 +321,9 @@ adding = scene_with (record { cred = root; calls = reading ∷ [] } ∷ adder �
 abbrev added : List RuleEntry
 added = record { who = who 1 0 0; rule = rule } ∷ []
 
-abbrev has_added : Thought
+abbrev has_added : Position
 has_added = record {
-  mind = record {
+  call_state = record {
     at = 2;
     progress = None;
     handles = record {
@@ -354,7 +354,7 @@ uncounted = record {
   journals = (opened (Added 1) ++ counted_next ∷ checked_by 1 ∷ []) ∷ [];
   list = boot ∷ entry ∷ violation_of ImaNg Sha256 script_file.path ∷ [];
   added = added;
-  thoughts = has_opened ∷ has_added ∷ [];
+  positions = has_opened ∷ has_added ∷ [];
 }
 
 -- the script's rule and the appended one make two

@@ -11,7 +11,7 @@ use Rattle.call_steps.specs.declared.call.Call.{Call}
 use Rattle.call_steps.specs.declared.call.Call.TheVariants as call
 use Rattle.call_steps.specs.declared.reply.Reply.{Reply}
 use Rattle.run_model.specs.Ended.{is_done, is_stuck}
-use Rattle.run_model.specs.History.{Thought}
+use Rattle.run_model.specs.History.{Position}
 use Rattle.run_model.specs.Scene.{Program, Scene, ScriptFile, inode_of}
 use Rattle.run_model.specs.Served.{Run}
 use Rattle.policy_cell.specs.declared.cell.RuleEntry.{RuleEntry}
@@ -39,8 +39,8 @@ inodes_ended scene [] journals = []
 inodes_ended scene (s ∷ ss) [] = []
 inodes_ended scene (s ∷ ss) (j ∷ js) = ended_inode (inode_of scene s) j ∷ inodes_ended scene ss js
 
-abbrev pub tasks_ended : List Program → List Thought → List EndedTaskValue
-tasks_ended [] thoughts = []
+abbrev pub tasks_ended : List Program → List Position → List EndedTaskValue
+tasks_ended [] positions = []
 tasks_ended (p ∷ ps) [] = []
 tasks_ended (p ∷ ps) (t ∷ ts) = record { done = is_done p t; replies = t.replies }
     ∷ tasks_ended ps ts
@@ -59,8 +59,8 @@ ended_of scene run = record {
   inodes = inodes_ended scene scene.script_files run.journals;
   list = run.list;
   banks = banks_of run.list;
-  tasks = tasks_ended scene.programs run.thoughts;
-  stuck = is_stuck scene.programs run.thoughts;
+  tasks = tasks_ended scene.programs run.positions;
+  stuck = is_stuck scene.programs run.positions;
   template = scene.settings.template;
   rules = run.added;
   base = length scene.rules;

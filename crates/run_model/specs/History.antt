@@ -9,8 +9,8 @@ use Rattle.call_steps.specs.events.declared.deed.Deed.{Deed}
 use Rattle.call_steps.specs.events.declared.deed.Deed.TheVariants as deed
 use Rattle.call_steps.specs.events.declared.told.Event.{Event}
 use Rattle.call_steps.specs.events.declared.told.Told.{Told}
-use Rattle.call_steps.specs.Mind.{Mind, Step, after_of, ask_of, fresh, number_of}
-use Rattle.call_steps.specs.Mind.{Does, Checks, Signals, Appends}
+use Rattle.call_steps.specs.CallState.{CallState, Step, after_of, ask_of, fresh, number_of}
+use Rattle.call_steps.specs.CallState.{Does, Checks, Signals, Appends}
 use Rattle.call_steps.specs.declared.call.Call.{Call}
 use Rattle.call_steps.specs.declared.reply.Reply.{Reply}
 use Rattle.run_model.specs.Scene.{Program}
@@ -29,53 +29,53 @@ abbrev pub plain_answer : ℕ → Told → Answer
 plain_answer place t = record { place = place; told = t; action = no_action; rules = 0 }
 
 -- the position of a task, with its replies so far
-pub record Thought : Type 0 where
-  pub mind : Mind
+pub record Position : Type 0 where
+  pub call_state : CallState
   pub replies : List Reply
 
-abbrev pub start : Thought
-start = record { mind = fresh; replies = [] }
+abbrev pub start : Position
+start = record { call_state = fresh; replies = [] }
 
 abbrev pub replied : List Reply → Option Reply → List Reply
 replied replies None = replies
 replied replies (Some r) = replies ++ r ∷ []
 
-abbrev pub thought_with : Thought → Mind × Option Reply → Thought
-thought_with t after = record { mind = after.0; replies = replied t.replies after.1 }
+abbrev pub position_with : Position → CallState × Option Reply → Position
+position_with t after = record { call_state = after.0; replies = replied t.replies after.1 }
 
 -- the task takes the outcome of its step; a task whose program is over is unchanged
-abbrev pub hear_in : Mode → Program → Option Call → Thought → Answer → Thought
-hear_in mode p None t a = t
-hear_in mode p (Some c) t a =
-    thought_with t (after_of mode p.cred.admin c t.mind a.place a.told a.action)
+abbrev pub resume_in : Mode → Program → Option Call → Position → Answer → Position
+resume_in mode p None t a = t
+resume_in mode p (Some c) t a =
+    position_with t (after_of mode p.cred.admin c t.call_state a.place a.told a.action)
 
-abbrev pub call_at : Program → Mind → Option Call
+abbrev pub call_at : Program → CallState → Option Call
 call_at p m = slice_get p.calls m.at
 
-abbrev pub hear : Mode → Program → Thought → Answer → Thought
-hear mode p t a = hear_in mode p (call_at p t.mind) t a
+abbrev pub resume : Mode → Program → Position → Answer → Position
+resume mode p t a = resume_in mode p (call_at p t.call_state) t a
 
 -- the task after the steps of the history
-abbrev pub thought : Mode → Program → List Answer → Thought
-thought mode p [] = start
-thought mode p (a ∷ before) = hear mode p (thought mode p before) a
+abbrev pub position : Mode → Program → List Answer → Position
+position mode p [] = start
+position mode p (a ∷ before) = resume mode p (position mode p before) a
 
 -- ---- the steps
 
-abbrev pub step_in : Program → Option Call → Mind → Option Step
+abbrev pub step_in : Program → Option Call → CallState → Option Step
 step_in p None m = None
 step_in p (Some c) m = Some (ask_of p.cred.admin c m)
 
 -- the step that the task makes next, if its program isn't over
-abbrev pub step_at : Program → Mind → Option Step
+abbrev pub step_at : Program → CallState → Option Step
 step_at p m = step_in p (call_at p m) m
 
-abbrev pub who_in : ℕ → Program → Option Call → Mind → Who
+abbrev pub who_in : ℕ → Program → Option Call → CallState → Who
 who_in n p None m = record { task = n; call = m.at; step = 0 }
 who_in n p (Some c) m = record { task = n; call = m.at; step = number_of p.cred.admin c m }
 
 -- the Who of the next step, for task n
-abbrev pub who_at : ℕ → Program → Mind → Who
+abbrev pub who_at : ℕ → Program → CallState → Who
 who_at n p m = who_in n p (call_at p m) m
 
 abbrev pub event : Who → Deed → Told → Event
@@ -106,19 +106,19 @@ signal_in who _ a = []
 abbrev pub own : Mode → ℕ → Program → ℕ → List Answer → List (ℕ × Event)
 own mode n p i [] = []
 own mode n p i (a ∷ before) =
-    let m = (thought mode p before).mind in
+    let m = (position mode p before).call_state in
     own mode n p i before ++ event_in i (who_at n p m) (step_at p m) a
 
 -- the rules that the task appended
 abbrev pub own_rules : Mode → ℕ → Program → List Answer → List (ℕ × RuleEntry)
 own_rules mode n p [] = []
 own_rules mode n p (a ∷ before) =
-    let m = (thought mode p before).mind in
+    let m = (position mode p before).call_state in
     own_rules mode n p before ++ rule_in (who_at n p m) (step_at p m) a
 
 -- the task's posts and waits
 abbrev pub own_signals : Mode → ℕ → Program → List Answer → List (ℕ × Event)
 own_signals mode n p [] = []
 own_signals mode n p (a ∷ before) =
-    let m = (thought mode p before).mind in
+    let m = (position mode p before).call_state in
     own_signals mode n p before ++ signal_in (who_at n p m) (step_at p m) a

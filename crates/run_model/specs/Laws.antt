@@ -10,16 +10,16 @@ use Rattle.call_steps.specs.events.Says.{says, placed_in}
 use Rattle.call_steps.specs.events.declared.deed.Deed.{Deed}
 use Rattle.call_steps.specs.events.declared.told.Event.{Event}
 use Rattle.call_steps.specs.events.declared.told.Told.{Told}
-use Rattle.run_model.specs.History.{Thought}
+use Rattle.run_model.specs.History.{Position}
 use Rattle.run_model.specs.Rounds.{RoundsTo, all_tasks, is_moved, round_moves}
 use Rattle.run_model.specs.Scene.{Program, Scene}
 use Rattle.run_model.specs.Turns.{Moment, State, step_task, turns_of}
 
 -- a turn that doesn't move, blocked or done, changes nothing
 abbrev pub IdleTurn : Type 0
-IdleTurn = (scene : Scene) (n : ℕ) (p : Program) (s : State) (t : Thought)
+IdleTurn = (scene : Scene) (n : ℕ) (p : Program) (s : State) (t : Position)
     → is_moved (step_task scene n p s t).turn ≡ false
-    → ((step_task scene n p s t).state ≡ s) × ((step_task scene n p s t).thought ≡ t)
+    → ((step_task scene n p s t).state ≡ s) × ((step_task scene n p s t).position ≡ t)
 
 -- a round that moves no task changes nothing
 abbrev pub IdleRound : Type 0

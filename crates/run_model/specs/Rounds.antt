@@ -1,6 +1,6 @@
 -- Rounds of all tasks, and the run of a script.
 use Rattle.std.specs.Prelude.{◌≡◌, ℕ, zero, suc, ◌<◌, ◌++◌, ◌||◌, Bool, true, false, List, [], ◌∷◌, length, Option, Some, slice_get}
-use Rattle.run_model.specs.History.{Thought}
+use Rattle.run_model.specs.History.{Position}
 use Rattle.run_model.specs.Served.{Run}
 use Rattle.run_model.specs.Scene.{Program, Scene}
 use Rattle.run_model.specs.Turns.{Moment, run_at, start_of, step_task, turn, turns_of}
@@ -18,13 +18,13 @@ abbrev pub is_moved : Turn → Bool
 is_moved turns.Moved = true
 is_moved _ = false
 
-abbrev pub moves_at : Scene → Moment → ℕ → Option Program → Option Thought → Bool
+abbrev pub moves_at : Scene → Moment → ℕ → Option Program → Option Position → Bool
 moves_at scene m n (Some p) (Some t) = is_moved (step_task scene n p m.state t).turn
 moves_at scene m n _ _ = false
 
 -- a turn of task n moves it
 abbrev pub moves : Scene → Moment → ℕ → Bool
-moves scene m n = moves_at scene m n (slice_get scene.programs n) (slice_get m.thoughts n)
+moves scene m n = moves_at scene m n (slice_get scene.programs n) (slice_get m.positions n)
 
 -- at least one of these turns moves its task
 abbrev pub any_moves : Scene → Moment → List ℕ → Bool

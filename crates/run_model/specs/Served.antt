@@ -11,9 +11,9 @@ use Rattle.call_steps.specs.events.declared.deed.Deed.TheVariants as deed
 use Rattle.call_steps.specs.events.declared.told.Event.{Event}
 use Rattle.call_steps.specs.events.declared.told.Told.TheVariants as told
 use Rattle.call_steps.specs.templates.declared.entry.Entry.{Entry}
-use Rattle.call_steps.specs.Mind.{Step}
-use Rattle.call_steps.specs.Mind.{Nothing, Does, Checks, Signals, Appends}
-use Rattle.run_model.specs.History.{Answer, Thought, own, own_rules, plain_answer, step_at, thought}
+use Rattle.call_steps.specs.CallState.{Step}
+use Rattle.call_steps.specs.CallState.{Nothing, Does, Checks, Signals, Appends}
+use Rattle.run_model.specs.History.{Answer, Position, own, own_rules, plain_answer, position, step_at}
 use Rattle.run_model.specs.Scene.{Program, Scene, ScriptFile, decided, mode_of, rules_with}
 use Rattle.policy_cell.specs.declared.cell.RuleEntry.{RuleEntry}
 
@@ -23,7 +23,7 @@ pub record Run : Type 0 where
   pub journals : List (List Event)
   pub list : List Entry
   pub added : List RuleEntry
-  pub thoughts : List Thought
+  pub positions : List Position
 
 abbrev pub final_rules : Scene → Run → List RuleValue
 final_rules scene run = rules_with scene run.added
@@ -50,7 +50,7 @@ known_after base _ a old = old
 abbrev pub rules_known : Scene → Program → List Answer → ℕ
 rules_known scene p [] = length scene.rules
 rules_known scene p (a ∷ before) =
-    known_after (length scene.rules) (step_at p (thought (mode_of scene) p before).mind) a
+    known_after (length scene.rules) (step_at p (position (mode_of scene) p before).call_state) a
     (rules_known scene p before)
 
 -- A check is decided by the first of the final rules, as many as the answer says, for the task's
@@ -81,7 +81,7 @@ abbrev pub AreSuited : Scene → Run → Program → List Answer → Type 0
 AreSuited scene run p [] = Unit {0}
 AreSuited scene run p (a ∷ before) =
     Suits scene run p (rules_known scene p before)
-    (step_at p (thought (mode_of scene) p before).mind) a × AreSuited scene run p before
+    (step_at p (position (mode_of scene) p before).call_state) a × AreSuited scene run p before
 
 -- the number of rules that the journal's last check counted
 abbrev pub counted_by : Deed → ℕ → ℕ
@@ -105,9 +105,9 @@ RulesRise base (e ∷ before) =
 -- event is in the journal of its inode, under its Who and in order, and each rule that the task
 -- appended is in the same way among the rules; nothing else there has the task's number. Its calls
 -- are answered in order, and some first steps of the next call may have been made
-pub record IsServed (scene : Scene) (run : Run) (n : ℕ) (p : Program) (t : Thought) : Type 0 where
+pub record IsServed (scene : Scene) (run : Run) (n : ℕ) (p : Program) (t : Position) : Type 0 where
   pub history : List Answer
-  pub stands : thought (mode_of scene) p history ≡ t
+  pub stands : position (mode_of scene) p history ≡ t
   pub suited : AreSuited scene run p history
   pub events : (i : ℕ) (journal : List Event) → slice_get run.journals i ≡ Some journal
       → events_of n journal ≡ own (mode_of scene) n p i history
@@ -116,9 +116,9 @@ pub record IsServed (scene : Scene) (run : Run) (n : ℕ) (p : Program) (t : Tho
 pub record Served (scene : Scene) (run : Run) : Type 0 where
   -- one journal for each inode, and one position for each task
   pub journals : length run.journals ≡ length scene.script_files
-  pub thoughts : length run.thoughts ≡ length scene.programs
-  pub tasks : (n : ℕ) (p : Program) (t : Thought) → slice_get scene.programs n ≡ Some p
-      → slice_get run.thoughts n ≡ Some t → IsServed scene run n p t
+  pub positions : length run.positions ≡ length scene.programs
+  pub tasks : (n : ℕ) (p : Program) (t : Position) → slice_get scene.programs n ≡ Some p
+      → slice_get run.positions n ≡ Some t → IsServed scene run n p t
   -- apart from the births there are no other events, and apart from the script's no other rules
   pub no_other_events : All (λ (journal : List Event). All
       (λ (e : Event). caller_of e ≤ length scene.programs) journal) run.journals

@@ -21,4 +21,4 @@ pub record IsShown (scene : Scene) (ending : Ending) (run : Run) : Type 0 where
       (journals_of scene scene.script_files run.journals)
   pub merged : IsMerged scene.boot run.list (journals_of scene scene.script_files run.journals)
   pub served : Served scene run
-  pub ended : IsEnded ending scene.programs run.thoughts
+  pub ended : IsEnded ending scene.programs run.positions

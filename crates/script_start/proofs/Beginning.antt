@@ -4,14 +4,14 @@ use Rattle.std.specs.Prelude.{slice_get}
 use Rattle.std.specs.List.{AllByRecursion, list_all}
 use Rattle.std.proofs.lemmas.List.{length-map}
 use Rattle.std.proofs.lemmas.Option.{none-some, same_Some, slice_get_within}
-use Rattle.run_model.specs.History.{Thought, start}
+use Rattle.run_model.specs.History.{Position, start}
 use Rattle.run_model.specs.Scene.{Program}
 use Rattle.script_text.specs.Forms.{is_cred, is_line_call, is_task}
 use Rattle.script_text.specs.declared.blocks.TaskBlock.{TaskBlock}
 use Rattle.script_text.proofs.Holding.{left_true, right_true}
 use Rattle.task_core.specs.worlds.WorldConsts.{WorldConsts}
 use Rattle.task_core.specs.worlds.Runs as runs
-use Rattle.task_core.specs.worlds.Runs.{AreTasks, programs_of, thought_of}
+use Rattle.task_core.specs.worlds.Runs.{AreTasks, position_of, programs_of}
 use Rattle.task_core.specs.worlds.Tasks.{AreCallsOf, PassesValue, Tasked}
 use Rattle.task_core.proofs.about_closes.Gets.{get_map, map_get}
 use Rattle.task_core.specs.starts.Start.{AreFirstPasses}
@@ -97,18 +97,18 @@ module _ (blocks : List TaskBlock) (passes : List PassesValue) (tasks : List Tas
       map_get program_of blocks k a.0 a.1.0
       ∙ ap Some (sym a.1.1.1.1.program ∙ t.1.1))
 
-  pub thoughts_are : map thought_of tasks
+  pub positions_are : map position_of tasks
       ≡ map (λ (p : Program). start) (map program_of blocks)
-  thoughts_are = same_lists (map thought_of tasks)
+  positions_are = same_lists (map position_of tasks)
       (map (λ (p : Program). start) (map program_of blocks))
-      (length-map tasks thought_of ∙ new.count ∙ sym (length-map blocks program_of)
+      (length-map tasks position_of ∙ new.count ∙ sym (length-map blocks program_of)
       ∙ sym (length-map (map program_of blocks) (λ (p : Program). start)))
       (λ k x is.
-      let t = get_map thought_of tasks k x is in
+      let t = get_map position_of tasks k x is in
       let a = at k t.0 t.1.0 in
       map_get (λ (p : Program). start) (map program_of blocks) k (program_of a.0)
       (map_get program_of blocks k a.0 a.1.0)
-      ∙ ap Some (sym a.1.1.1.1.thought ∙ t.1.1))
+      ∙ ap Some (sym a.1.1.1.1.position ∙ t.1.1))
 
 -- the world and the tasks that are started with a script's parts are those of the script
 pub started_is : (s : ScriptValue) → IsScript s → (p : ScriptParts) → ArePartsOf s p
@@ -131,7 +131,7 @@ started_is s kept p parts world passes tasks count count_is is begins first new 
           (programs ∙ ap (map program_of) parts.tasks);
       start = λ i. record {
         state = begins (programs_of tasks) i;
-        thoughts = (thoughts_are blocks passes tasks new even
+        positions = (positions_are blocks passes tasks new even
             ∙ ap (map (λ (q : Program). start)) (sym programs)) i;
       };
       each = are_tasks blocks passes tasks new even world.consts first forms;

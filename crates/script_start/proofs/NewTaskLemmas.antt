@@ -18,19 +18,19 @@ use Rattle.script_start.specs.NewTasks.{AreNew, IsNew}
 pub new_is : {E : Type 0} (r : Result Tasked E) (n : ℕ) (block : TaskBlock) (calls : List Call)
     (passes : PassesValue) → calls ≡ block.calls
     → IfOk r (λ t. t.number ≡ n)
-    → IfOk r (λ t. t.mind.program ≡ record { cred = block.cred; calls = calls })
-    → IfOk r (λ t. t.mind.thought ≡ start)
+    → IfOk r (λ t. t.task_state.program ≡ record { cred = block.cred; calls = calls })
+    → IfOk r (λ t. t.task_state.position ≡ start)
     → IfOk r (λ t. (consts : WorldConsts) → ArePassesOf consts n passes → AreUnused passes
     → AreCallsOf (length consts.each_inode) calls → IsTask consts t)
     → IfOk r (IsNew n block passes)
-new_is (Ok t) n block calls passes same number program thought task = record {
+new_is (Ok t) n block calls passes same number program position task = record {
   number = number;
   program = program ∙ (λ i. record { cred = block.cred; calls = same i });
-  thought = thought;
+  position = position;
   task = λ consts own unused fit. task consts own unused
       (subst (AreCallsOf (length consts.each_inode)) (sym same) fit);
 }
-new_is (Err e) n block calls passes same number program thought task = tt
+new_is (Err e) n block calls passes same number program position task = tt
 
 -- the item at a place and the items after it, from the list from that place on
 next : {A : Type 0} (xs : List A) (k : ℕ) (x : A) (rest : List A) → x ∷ rest ≡ drop k xs

@@ -9,8 +9,8 @@ use Rattle.script_scene.specs.Scene.{program_of}
 -- a new task with this number, block and passes, in any world to which the passes and calls belong
 pub record IsNew (n : ℕ) (block : TaskBlock) (passes : PassesValue) (t : Tasked) : Type 0 where
   pub number : t.number ≡ n
-  pub program : t.mind.program ≡ program_of block
-  pub thought : t.mind.thought ≡ start
+  pub program : t.task_state.program ≡ program_of block
+  pub position : t.task_state.position ≡ start
   pub task : (consts : WorldConsts) → ArePassesOf consts n passes → AreUnused passes
       → AreCallsOf (length consts.each_inode) block.calls → IsTask consts t
 

@@ -23,8 +23,8 @@ use Rattle.inode_events.specs.declared.told.Event.{Event}
 use Rattle.inode_events.specs.declared.told.Grant.{Grant}
 use Rattle.inode_events.specs.declared.told.Told.{Told}
 use Rattle.inode_events.specs.declared.told.Told.TheVariants as told
-use Rattle.call_steps.specs.Mind.{Mind, Progress, Step, ask_of, begun, deed_of, file_after, moved, plain_step, progress_of, step_by}
-use Rattle.call_steps.specs.Mind.{Nothing, Does, Checks, Signals, Appends}
+use Rattle.call_steps.specs.CallState.{CallState, Progress, Step, ask_of, begun, deed_of, file_after, moved, plain_step, progress_of, step_by}
+use Rattle.call_steps.specs.CallState.{Nothing, Does, Checks, Signals, Appends}
 use Rattle.call_steps.specs.Steps.{after_chunk, after_close, close, course_of, granted, how_of, next, next_by, refused, refused_by, admitted}
 use Rattle.call_steps.specs.declared.ask.Ask.{Ask}
 use Rattle.call_steps.specs.declared.ask.Ask.TheVariants as ask
@@ -36,7 +36,7 @@ use Rattle.call_steps.specs.declared.due.Next.{Next}
 use Rattle.call_steps.specs.declared.due.Next.TheVariants.{On, Over}
 use Rattle.call_steps.specs.declared.reply.Reply.{Reply}
 use Rattle.call_steps.specs.declared.reply.Reply.TheVariants as reply
-use Rattle.run_model.specs.History.{Answer, Thought, call_at, event, event_in, hear_in, own, step_at, step_in, thought, thought_with, who_at, who_in}
+use Rattle.run_model.specs.History.{Answer, Position, call_at, event, event_in, own, position, position_with, resume_in, step_at, step_in, who_at, who_in}
 use Rattle.run_model.specs.Scene.{Program, Scene, mode_of}
 use Rattle.run_model.specs.Served.{IsServed, Run, Served, events_of}
 use Rattle.shown_laws.specs.Laws.{ShownIsDenied}
@@ -74,25 +74,26 @@ map_get f (y ∷ xs) (suc k) x h = map_get f xs k x h
 
 -- ---- there is a reply to each answered call, and to no other
 
-abbrev pub IsEven : Thought → Type 0
-IsEven t = length t.replies ≡ t.mind.at
+abbrev pub IsEven : Position → Type 0
+IsEven t = length t.replies ≡ t.call_state.at
 
-even_next : (c : Call) (t : Thought) (g : Progress) (place : ℕ) (n : Next) → IsEven t
-    → IsEven (thought_with t (moved c t.mind g place n))
+even_next : (c : Call) (t : Position) (g : Progress) (place : ℕ) (n : Next) → IsEven t
+    → IsEven (position_with t (moved c t.call_state g place n))
 even_next c t g place (On s) e = e
 even_next c t g place (Over r) e = omega (arith, e, length-append t.replies (r ∷ []))
 
-even_step : (mode : Mode) (p : Program) (t : Thought) (a : Answer) (o : Option Call) → IsEven t
-    → IsEven (hear_in mode p o t a)
+even_step : (mode : Mode) (p : Program) (t : Position) (a : Answer) (o : Option Call) → IsEven t
+    → IsEven (resume_in mode p o t a)
 even_step mode p t a None e = e
 even_step mode p t a (Some c) e =
-    even_next c t (progress_of p.cred.admin c t.mind) a.place
-    (next mode c (progress_of p.cred.admin c t.mind).due a.told a.action) e
+    even_next c t (progress_of p.cred.admin c t.call_state) a.place
+    (next mode c (progress_of p.cred.admin c t.call_state).due a.told a.action) e
 
-pub even : (mode : Mode) (p : Program) (h : List Answer) → IsEven (thought mode p h)
+pub even : (mode : Mode) (p : Program) (h : List Answer) → IsEven (position mode p h)
 even mode p [] = refl
 even mode p (a ∷ h) =
-    even_step mode p (thought mode p h) a (call_at p (thought mode p h).mind) (even mode p h)
+    even_step mode p (position mode p h) a (call_at p (position mode p h).call_state)
+    (even mode p h)
 
 -- ---- a call that is closing its file with this reply
 
@@ -126,20 +127,20 @@ closing_next mode c ask.CloseFinish r t action e = refl
 closing_next mode c k r t action e = absurd (cc)
 
 -- the task is at call k, which is closing its file with this reply
-record IsClosing (k : ℕ) (r : Reply) (t : Thought) : Type 0 where
-  pub at : t.mind.at ≡ k
+record IsClosing (k : ℕ) (r : Reply) (t : Position) : Type 0 where
+  pub at : t.call_state.at ≡ k
   pub progress : Progress
-  pub goes : t.mind.progress ≡ Some progress
+  pub goes : t.call_state.progress ≡ Some progress
   pub closing : is_closing progress.due.ask ≡ true
   pub reply : progress.due.reply ≡ r
 
 -- call k is closing its file with this reply, or has been answered with it
-abbrev Answers : ℕ → Reply → Thought → Type 0
+abbrev Answers : ℕ → Reply → Position → Type 0
 Answers k r t = IsClosing k r t ⊎ (slice_get t.replies k ≡ Some r)
 
-next_answers : (c : Call) (t : Thought) (g : Progress) (place : ℕ) (n : Next) (k : ℕ) (r : Reply)
-    → Closes r n → t.mind.at ≡ k → IsEven t
-    → Answers k r (thought_with t (moved c t.mind g place n))
+next_answers : (c : Call) (t : Position) (g : Progress) (place : ℕ) (n : Next) (k : ℕ) (r : Reply)
+    → Closes r n → t.call_state.at ≡ k → IsEven t
+    → Answers k r (position_with t (moved c t.call_state g place n))
 next_answers c t g place (On s) k r closes at even = inl (record {
   at = at;
   progress = record g {
@@ -156,33 +157,33 @@ next_answers c t g place (Over x) k r closes at even =
     ∙ slice_get-push t.replies x ∙ ap (λ (y : Reply). Some y) closes)
 
 -- a call's reply remains while the task goes on
-stays : (c : Call) (t : Thought) (g : Progress) (place : ℕ) (n : Next) (k : ℕ) (r : Reply)
+stays : (c : Call) (t : Position) (g : Progress) (place : ℕ) (n : Next) (k : ℕ) (r : Reply)
     → slice_get t.replies k ≡ Some r
-    → slice_get (thought_with t (moved c t.mind g place n)).replies k ≡ Some r
+    → slice_get (position_with t (moved c t.call_state g place n)).replies k ≡ Some r
 stays c t g place (On s) k r h = h
 stays c t g place (Over x) k r h = get_left t.replies (x ∷ []) k r h
 
-answers_step : (mode : Mode) (p : Program) (t : Thought) (a : Answer) (o : Option Call) (k : ℕ)
-    (r : Reply) → IsEven t → Answers k r t → Answers k r (hear_in mode p o t a)
+answers_step : (mode : Mode) (p : Program) (t : Position) (a : Answer) (o : Option Call) (k : ℕ)
+    (r : Reply) → IsEven t → Answers k r t → Answers k r (resume_in mode p o t a)
 answers_step mode p t a None k r even h = h
 answers_step mode p t a (Some c) k r even (inr h) =
-    inr (stays c t (progress_of p.cred.admin c t.mind) a.place
-    (next mode c (progress_of p.cred.admin c t.mind).due a.told a.action) k r h)
+    inr (stays c t (progress_of p.cred.admin c t.call_state) a.place
+    (next mode c (progress_of p.cred.admin c t.call_state).due a.told a.action) k r h)
 answers_step mode p t a (Some c) k r even (inl h) =
-    subst (λ (g : Progress). Answers k r (thought_with t (moved c t.mind g a.place
+    subst (λ (g : Progress). Answers k r (position_with t (moved c t.call_state g a.place
     (next mode c g.due a.told a.action))))
-    (sym (ap (λ (o : Option Progress). unwrap_or o (begun p.cred.admin t.mind.handles c)) h.goes))
-    (next_answers c t h.progress a.place (next mode c h.progress.due a.told a.action) k r
+    (sym (ap (λ (o : Option Progress). unwrap_or o (begun p.cred.admin t.call_state.handles c))
+    h.goes)) (next_answers c t h.progress a.place (next mode c h.progress.due a.told a.action) k r
     (subst (λ (x : Reply). Closes x (next mode c h.progress.due a.told a.action)) h.reply
     (closing_next mode (course_of c) h.progress.due.ask h.progress.due.reply a.told a.action
     h.closing)) h.at even)
 
 answers_later : (mode : Mode) (p : Program) (later before : List Answer) (k : ℕ) (r : Reply)
-    → Answers k r (thought mode p before) → Answers k r (thought mode p (later ++ before))
+    → Answers k r (position mode p before) → Answers k r (position mode p (later ++ before))
 answers_later mode p [] before k r h = h
 answers_later mode p (a ∷ later) before k r h =
-    answers_step mode p (thought mode p (later ++ before)) a
-    (call_at p (thought mode p (later ++ before)).mind) k r (even mode p (later ++ before))
+    answers_step mode p (position mode p (later ++ before)) a
+    (call_at p (position mode p (later ++ before)).call_state) k r (even mode p (later ++ before))
     (answers_later mode p later before k r h)
 
 -- ---- a refusal
@@ -285,16 +286,16 @@ record IsMade (mode : Mode) (n : ℕ) (p : Program) (i : ℕ) (h : List Answer) 
   pub before : List Answer
   pub is : h ≡ later ++ next ∷ before
   pub number : ℕ
-  pub there : slice_get (event_in i (who_at n p (thought mode p before).mind)
-      (step_at p (thought mode p before).mind) next) number ≡ Some x
+  pub there : slice_get (event_in i (who_at n p (position mode p before).call_state)
+      (step_at p (position mode p before).call_state) next) number ≡ Some x
 
 own_made : (mode : Mode) (n : ℕ) (p : Program) (i : ℕ) (h : List Answer) (j : ℕ) (x : ℕ × Event)
     → slice_get (own mode n p i h) j ≡ Some x → IsMade mode n p i h x
 own_made mode n p i [] j x e = absurd (cc)
 own_made mode n p i (a ∷ h) j x e =
     at (own_made mode n p i h j x)
-    (get_parts (own mode n p i h) (event_in i (who_at n p (thought mode p h).mind)
-    (step_at p (thought mode p h).mind) a) j x e) where
+    (get_parts (own mode n p i h) (event_in i (who_at n p (position mode p h).call_state)
+    (step_at p (position mode p h).call_state) a) j x e) where
       longer : IsMade mode n p i h x → IsMade mode n p i (a ∷ h) x
       longer m = record {
         later = a ∷ m.later;
@@ -307,8 +308,8 @@ own_made mode n p i (a ∷ h) j x e =
 
       at : (slice_get (own mode n p i h) j ≡ Some x → IsMade mode n p i h x)
           → (slice_get (own mode n p i h) j ≡ Some x)
-          ⊎ ((k : ℕ) × (slice_get (event_in i (who_at n p (thought mode p h).mind)
-          (step_at p (thought mode p h).mind) a) k ≡ Some x)) → IsMade mode n p i (a ∷ h) x
+          ⊎ ((k : ℕ) × (slice_get (event_in i (who_at n p (position mode p h).call_state)
+          (step_at p (position mode p h).call_state) a) k ≡ Some x)) → IsMade mode n p i (a ∷ h) x
       at rest (inl w) = longer (rest w)
       at rest (inr w) = record {
         later = [];
@@ -321,37 +322,37 @@ own_made mode n p i (a ∷ h) j x e =
 
 -- ---- the refusal in the history
 
-refusal : (mode : Mode) (p : Program) (n : ℕ) (t : Thought) (a : Answer) (o : Option Call)
-    (g : Grant) (cause : Cause) (file : ℕ) (s : Step) → step_in p o t.mind ≡ Some s
+refusal : (mode : Mode) (p : Program) (n : ℕ) (t : Position) (a : Answer) (o : Option Call)
+    (g : Grant) (cause : Cause) (file : ℕ) (s : Step) → step_in p o t.call_state ≡ Some s
     → granted_file (deed_in s) ≡ Some file → a.told ≡ told.Grant g → g.admitted ≡ false
     → g.verdict ≡ Some (Deny cause) → IsEven t
-    → Answers t.mind.at (reply.Denied cause) (hear_in mode p o t a)
+    → Answers t.call_state.at (reply.Denied cause) (resume_in mode p o t a)
 refusal mode p n t a None g cause file s is grants said barred verdict even = absurd (cc)
 refusal mode p n t a (Some c) g cause file s is grants said barred verdict even =
-    next_answers c t (progress_of p.cred.admin c t.mind) a.place
-    (next mode c (progress_of p.cred.admin c t.mind).due a.told a.action) t.mind.at
+    next_answers c t (progress_of p.cred.admin c t.call_state) a.place
+    (next mode c (progress_of p.cred.admin c t.call_state).due a.told a.action) t.call_state.at
     (reply.Denied cause)
     (subst (λ (x : Told). Closes (reply.Denied cause)
-    (next mode c (progress_of p.cred.admin c t.mind).due x a.action)) (sym said)
+    (next mode c (progress_of p.cred.admin c t.call_state).due x a.action)) (sym said)
     (subst (λ (x : Next). Closes (reply.Denied cause) x)
-    (sym (grant_next mode (course_of c) (progress_of p.cred.admin c t.mind).due.ask
-    (progress_of p.cred.admin c t.mind).due.reply g a.action asks))
+    (sym (grant_next mode (course_of c) (progress_of p.cred.admin c t.call_state).due.ask
+    (progress_of p.cred.admin c t.call_state).due.reply g a.action asks))
     (granted_closes (course_of c) g cause barred verdict))) refl even where
-      asks : AsksGrant (progress_of p.cred.admin c t.mind).due.ask
-      asks = step_grants p.cred.admin c (progress_of p.cred.admin c t.mind)
-          (progress_of p.cred.admin c t.mind).due.ask file
+      asks : AsksGrant (progress_of p.cred.admin c t.call_state).due.ask
+      asks = step_grants p.cred.admin c (progress_of p.cred.admin c t.call_state)
+          (progress_of p.cred.admin c t.call_state).due.ask file
           (ap (λ (y : Step). granted_file (deed_in y))
-          (same_Some (ask_of p.cred.admin c t.mind) s is) ∙ grants)
+          (same_Some (ask_of p.cred.admin c t.call_state) s is) ∙ grants)
 
--- the call that a `Who` names is the one at which the task's mind is
-who_call : (n : ℕ) (p : Program) (m : Mind) → (who_at n p m).call ≡ m.at
+-- the call that a `Who` names is the one at which the task's state is
+who_call : (n : ℕ) (p : Program) (m : CallState) → (who_at n p m).call ≡ m.at
 who_call n p m = at (call_at p m) where
   at : (o : Option Call) → (who_in n p o m).call ≡ m.at
   at None = refl
   at (Some c) = refl
 
 -- if a served task's call of a refused file is answered, its reply is a denial
-denied_by : (scene : Scene) (run : Run) (n : ℕ) (p : Program) (t : Thought) (i k : ℕ)
+denied_by : (scene : Scene) (run : Run) (n : ℕ) (p : Program) (t : Position) (i k : ℕ)
     (journal : List Event) (who : Who) (d : Deed) (g : Grant) (file : ℕ) (cause : Cause)
     (r : Reply) → IsServed scene run n p t → slice_get run.journals i ≡ Some journal
     → slice_get journal k ≡ Some (record { who = who; deed = d; told = told.Grant g })
@@ -388,28 +389,29 @@ denied_by scene run n p t i k journal who d g file cause r s at here caller gran
 
     ends : IsMade (mode_of scene) n p i s.history
         (k, record { who = who; deed = d; told = told.Grant g }) → r ≡ reply.Denied cause
-    ends m = by (deed_made i (who_at n p (thought (mode_of scene) p m.before).mind)
-        (step_at p (thought (mode_of scene) p m.before).mind) m.next m.number
+    ends m = by (deed_made i (who_at n p (position (mode_of scene) p m.before).call_state)
+        (step_at p (position (mode_of scene) p m.before).call_state) m.next m.number
         (k, record { who = who; deed = d; told = told.Grant g }) file m.there grants) where
-          by : IsDeedOf (who_at n p (thought (mode_of scene) p m.before).mind)
-              (step_at p (thought (mode_of scene) p m.before).mind) m.next
+          by : IsDeedOf (who_at n p (position (mode_of scene) p m.before).call_state)
+              (step_at p (position (mode_of scene) p m.before).call_state) m.next
               (k, record { who = who; deed = d; told = told.Grant g }) → r ≡ reply.Denied cause
           by made =
-              let before = thought (mode_of scene) p m.before in
-              let refused_at = refusal (mode_of scene) p n before m.next (call_at p before.mind) g
-              cause file made.step made.is
+              let before = position (mode_of scene) p m.before in
+              let refused_at = refusal (mode_of scene) p n before m.next
+              (call_at p before.call_state) g cause file made.step made.is
               (ap (λ (e : Event). granted_file e.deed) made.event_is ∙ grants)
               (ap (λ (e : Event). e.told) made.event_is) barred verdict
               (even (mode_of scene) p m.before) in
               let later = answers_later (mode_of scene) p m.later (m.next ∷ m.before)
-              before.mind.at (reply.Denied cause) refused_at in
-              let stands : thought (mode_of scene) p (m.later ++ m.next ∷ m.before) ≡ t =
-              ap (thought (mode_of scene) p) (sym m.is) ∙ s.stands in
-              decide before.mind.at
+              before.call_state.at (reply.Denied cause) refused_at in
+              let stands : position (mode_of scene) p (m.later ++ m.next ∷ m.before) ≡ t =
+              ap (position (mode_of scene) p) (sym m.is) ∙ s.stands in
+              decide before.call_state.at
               (ap (λ (e : Event). e.who.call) (sym made.event_is)
-              ∙ who_call n p before.mind)
+              ∙ who_call n p before.call_state)
               (subst IsEven s.stands (even (mode_of scene) p s.history))
-              (subst (λ (u : Thought). Answers before.mind.at (reply.Denied cause) u) stands later)
+              (subst (λ (u : Position). Answers before.call_state.at (reply.Denied cause) u)
+              stands later)
 
 -- an event of the past is at some place of the journal
 pub place_of : (journal later p : List Event) (e : Event) → newest_first journal ≡ later ++ e ∷ p

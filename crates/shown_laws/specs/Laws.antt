@@ -24,7 +24,7 @@ use Rattle.journal_laws.specs.Laws.{AreVerdictsFresh, IsAdmitted, IsDigestFresh,
 use Rattle.call_steps.specs.declared.ending.Ending.{Ending}
 use Rattle.call_steps.specs.declared.reply.Reply.{Reply}
 use Rattle.call_steps.specs.declared.reply.Reply.TheVariants as reply
-use Rattle.run_model.specs.History.{Thought}
+use Rattle.run_model.specs.History.{Position}
 use Rattle.run_model.specs.Scene.{Scene}
 use Rattle.run_model.specs.Served.{Run}
 use Rattle.run_model.specs.Shown.{IsShown}
@@ -57,10 +57,10 @@ AreAdmitted scene run =
 abbrev pub AreDenied : Scene → Run → Type 0
 AreDenied scene run =
     (inode : Inode) (p : List Event) (who : Who) (d : Deed) (grant : Grant) (file : ℕ)
-    (cause : Cause) (t : Thought) (r : Reply)
+    (cause : Cause) (t : Position) (r : Reply)
     → Stood scene run inode (record { who = who; deed = d; told = told.Grant grant } ∷ p)
     → granted_file d ≡ Some file → grant.admitted ≡ false → grant.verdict ≡ Some (Deny cause)
-    → slice_get run.thoughts who.task ≡ Some t → slice_get t.replies who.call ≡ Some r
+    → slice_get run.positions who.task ≡ Some t → slice_get t.replies who.call ≡ Some r
     → r ≡ reply.Denied cause
 
 -- the label that a close writes holds the digest, by the script's algorithm, of the content at that

@@ -26,7 +26,7 @@ use Rattle.world_locks.proofs.about_worlds.Looking.{look_is_made, look_is_played
 use Rattle.world_locks.specs.worlds.Looks.{HasLookedAtAll, InodeLooked}
 use Rattle.world_locks.specs.worlds.Plays.{task_left}
 use Rattle.world_locks.specs.worlds.Ready.{HasLooked}
-use Rattle.task_mind.specs.Value.{TaskValue}
+use Rattle.task_state.specs.Value.{TaskValue}
 use Rattle.world_close.specs.Closed.{AreSpares}
 use Rattle.world_locks.proofs.about_acts.Keeping.{each_inode_kept, journals_kept, world_inodes_kept}
 use Rattle.world_locks.specs.acts.Looking.{AreSameWorldInodes, HaveLooked, LookedAt}
@@ -234,14 +234,24 @@ look_names settings world_inodes supers book sems rules tasks n passes own i s q
     (own.inodes i (inode_consts_of s) q (get_map inode_consts_of world_inodes i s at) here).0
 
 -- the task of an unpacked world, with its passes unpacked
-pub look_opens : (w0 w : WorldValue) (t : Tasked) (n : ℕ) (mind : TaskValue) (g : HashState)
+pub look_opens : (w0 w : WorldValue) (t : Tasked) (n : ℕ) (task_state : TaskValue) (g : HashState)
     (passes q : PassesValue) → w0 ≡ w
-    → ◌≡◌ {A = Tasked} (record { number = n; mind = mind; hash_state = g; passes = q }) t
+    → ◌≡◌ {A = Tasked} (record {
+      number = n;
+      task_state = task_state;
+      hash_state = g;
+      passes = q;
+    }) t
     → passes ≡ q → IsTask w.consts t
-    → IsTask w0.consts (record { number = n; mind = mind; hash_state = g; passes = passes })
-look_opens w0 w t n mind g passes q e f k is =
+    → IsTask w0.consts (record {
+      number = n;
+      task_state = task_state;
+      hash_state = g;
+      passes = passes;
+    })
+look_opens w0 w t n task_state g passes q e f k is =
     subst (λ (x : WorldValue). IsTask x.consts
-    (record { number = n; mind = mind; hash_state = g; passes = passes })) (sym e)
+    (record { number = n; task_state = task_state; hash_state = g; passes = passes })) (sym e)
     (subst (λ (y : PassesValue). IsTask w.consts
-    (record { number = n; mind = mind; hash_state = g; passes = y })) (sym k)
+    (record { number = n; task_state = task_state; hash_state = g; passes = y })) (sym k)
     (subst (λ (x : Tasked). IsTask w.consts x) (sym f) is))

@@ -1,8 +1,8 @@
 -- How a turn ends on a world that threads share.
 use Rattle.std.proofs.Common.{◌≡◌, ℕ, Option, Some, None, refl, sym, ◌∙◌, ap, subst}
 use Rattle.std.specs.Prelude.{IfOk, OnErr, Result, Ok, Err, slice_get}
-use Rattle.call_steps.specs.Mind.{Step}
-use Rattle.call_steps.specs.Mind.{Appends, Checks, Does, Nothing, Signals}
+use Rattle.call_steps.specs.CallState.{Step}
+use Rattle.call_steps.specs.CallState.{Appends, Checks, Does, Nothing, Signals}
 use Rattle.inode_events.specs.declared.deed.Deed.{Deed}
 use Rattle.inode_events.specs.declared.told.Told.TheVariants as told
 use Rattle.inode_meta.specs.declared.identity.Cred.{Cred}
@@ -11,7 +11,7 @@ use Rattle.inode_meta.specs.declared.appraisal.Mode.{Mode}
 use Rattle.call_steps.specs.Steps.{given}
 use Rattle.policy_rules.specs.ActionValue.{ActionValue}
 use Rattle.policy_rules.specs.RuleValue.{RuleValue}
-use Rattle.run_model.specs.History.{Thought, hear, step_at, who_at}
+use Rattle.run_model.specs.History.{Position, resume, step_at, who_at}
 use Rattle.run_model.specs.Turns.{State, step_due, step_task}
 use Rattle.run_model.specs.declared.turn.Turn.{Turn}
 use Rattle.run_model.specs.declared.turn.Turn.TheVariants as turns
@@ -24,7 +24,7 @@ use Rattle.world_model.specs.Tasks.{PassesValue, Tasked}
 use Rattle.world_model.specs.declared.hash_state.HashState.{HashState}
 use Rattle.world_locks.proofs.about_worlds.Blocking.{task_of_who}
 use Rattle.world_locks.specs.worlds.Plays.{task_after, task_left}
-use Rattle.task_mind.specs.Value.{TaskValue}
+use Rattle.task_state.specs.Value.{TaskValue}
 use Rattle.world_locks.proofs.about_acts.Sharing.{nothing_tells}
 use Rattle.world_locks.specs.acts.Acting.{told_in}
 use Rattle.world_locks.specs.acts.Turning.{Goes, Stops, Tells, TurnsTo, answer_of, turn_result_of, turned_to}
@@ -44,14 +44,15 @@ idle_told {E} r x is idle = at r (subst (λ (z : Result TurnResult E). IsIdle z)
   at (Err e) i = refl
 
 module _ (consts : WorldConsts) (t : Tasked) (passes : PassesValue) (w : Who)
-    (w_is : w ≡ who_at t.number t.mind.program t.mind.thought.mind) where
+    (w_is : w ≡ who_at t.number t.task_state.program t.task_state.position.call_state) where
   abbrev asks : Option Step
-  asks = step_at t.mind.program t.mind.thought.mind
+  asks = step_at t.task_state.program t.task_state.position.call_state
 
   -- the step is one of the task's number
   w_task : w.task ≡ t.number
   w_task =
-      ap (λ (x : Who). x.task) w_is ∙ task_of_who t.number t.mind.program t.mind.thought.mind
+      ap (λ (x : Who). x.task) w_is
+      ∙ task_of_who t.number t.task_state.program t.task_state.position.call_state
 
   -- a turn with a deed on an inode
   pub does_met : {E : Type 0} (i : ℕ) (d : Deed) (g : HashState) (r : Result (Option StepResult) E)
@@ -74,7 +75,7 @@ module _ (consts : WorldConsts) (t : Tasked) (passes : PassesValue) (w : Who)
   -- a turn with a check
   pub checks_met : {E : Type 0} (i : ℕ) (asked : Asked) (cred : Cred)
       (r : Result (Option StepResult) E) (x : Result TurnResult E)
-      → asks ≡ Some (Checks i asked.file asked.func asked.mask) → cred ≡ t.mind.program.cred
+      → asks ≡ Some (Checks i asked.file asked.func asked.mask) → cred ≡ t.task_state.program.cred
       → CheckMet consts i w cred asked t.passes passes r → x ≡ turn_result_of r
       → TurnsToMet consts t passes t.hash_state x
   checks_met i asked cred r x st c m is = record {
@@ -126,7 +127,7 @@ module _ (consts : WorldConsts) (t : Tasked) (passes : PassesValue) (w : Who)
 
 -- a turn with a step that does nothing
 pub nothing_met : {E : Type 0} (consts : WorldConsts) (t : Tasked) (a : StepResult)
-    → step_at t.mind.program t.mind.thought.mind ≡ Some Nothing → a.place ≡ 0
+    → step_at t.task_state.program t.task_state.position.call_state ≡ Some Nothing → a.place ≡ 0
     → a.told ≡ told.Nothing → a.action ≡ None
     → TurnsToMet {E = E} consts t t.passes t.hash_state (Ok (turn_result.Told a))
 nothing_met consts t a st e k f = record {
@@ -138,14 +139,14 @@ nothing_met consts t a st e k f = record {
 
 -- a turn of a program that is over
 pub over_met : {E : Type 0} (consts : WorldConsts) (t : Tasked)
-    → None ≡ step_at t.mind.program t.mind.thought.mind
+    → None ≡ step_at t.task_state.program t.task_state.position.call_state
     → TurnsToMet {E = E} consts t t.passes t.hash_state (Ok turn_result.Over)
 over_met consts t st = record {
   old = state_seen t.passes;
   reaches = record {
     plays = λ h x. x;
-    goes = λ programs. ap (step_due (scene_of consts programs) t.number t.mind.program
-        (state_seen t.passes) t.mind.thought) (sym st);
+    goes = λ programs. ap (step_due (scene_of consts programs) t.number t.task_state.program
+        (state_seen t.passes) t.task_state.position) (sym st);
   };
   idle = λ idle. refl;
   blocked = λ b. absurd (over_ends b);
@@ -165,7 +166,7 @@ module _ (consts : WorldConsts) (t t2 : Tasked) (passes : PassesValue) (g : Hash
       record {
         old = m.old;
         goes = subst (λ (z : Tasked). Goes consts t m.old
-            (turned_to (state_seen z.passes) z.mind.thought turns.Done)) (sym k) stops.goes;
+            (turned_to (state_seen z.passes) z.task_state.position turns.Done)) (sym k) stops.goes;
       }
 
   -- the task after a turn that was blocked
@@ -179,37 +180,39 @@ module _ (consts : WorldConsts) (t t2 : Tasked) (passes : PassesValue) (g : Hash
       record {
         old = m.old;
         goes = subst (λ (z : Tasked). Goes consts t m.old
-            (turned_to (state_seen z.passes) z.mind.thought turns.Blocked)) (sym k) stops.goes;
+            (turned_to (state_seen z.passes) z.task_state.position turns.Blocked))
+            (sym k) stops.goes;
       }
 
   -- the task after a turn that moved it
   pub moved_steps : {E : Type 0} (r : Result TurnResult E) (x : TurnResult) (a : StepResult)
       (mode : Mode)
-      (action : Option ActionValue) (mind : TaskValue) → r ≡ Ok x → x ≡ turn_result.Told a
-      → TurnsToMet consts t passes g r → t2 ≡ task_after t mind passes g → mode ≡ mode_in consts
-      → action ≡ a.action
-      → ((rules : ℕ) → mind.thought ≡ hear mode t.mind.program t.mind.thought
+      (action : Option ActionValue) (task_state : TaskValue) → r ≡ Ok x → x ≡ turn_result.Told a
+      → TurnsToMet consts t passes g r → t2 ≡ task_after t task_state passes g
+      → mode ≡ mode_in consts → action ≡ a.action
+      → ((rules : ℕ) → task_state.position ≡ resume mode t.task_state.program t.task_state.position
       (record { place = a.place; told = a.told; action = given action; rules = rules }))
       → StepsTo consts t t2 turns.Moved
-  moved_steps {E} r x a mode action mind e f m k same same_action thought =
+  moved_steps {E} r x a mode action task_state e f m k same same_action position =
       let tells : Tells consts t m.old (state_seen passes) passes g a =
       subst (λ (z : Result TurnResult E). TurnsTo consts t m.old (state_seen passes) passes g z)
       (e ∙ ap (λ (z : TurnResult). Ok z) f) m.reaches in
-      let heard : hear (mode_in consts) t.mind.program t.mind.thought (answer_of a tells.rules)
-      ≡ mind.thought =
-      sym (thought tells.rules
-      ∙ ap (λ (y : Mode). hear y t.mind.program t.mind.thought
+      let resumed : resume (mode_in consts) t.task_state.program t.task_state.position
+      (answer_of a tells.rules) ≡ task_state.position =
+      sym (position tells.rules
+      ∙ ap (λ (y : Mode). resume y t.task_state.program t.task_state.position
       (record { place = a.place; told = a.told; action = given action; rules = tells.rules })) same
-      ∙ ap (λ (y : Option ActionValue). hear (mode_in consts) t.mind.program t.mind.thought
+      ∙ ap (λ (y : Option ActionValue). resume (mode_in consts) t.task_state.program
+      t.task_state.position
       (record { place = a.place; told = a.told; action = given y; rules = tells.rules }))
       same_action) in
       record {
         old = m.old;
         goes = subst (λ (z : Tasked). Goes consts t m.old
-            (turned_to (state_seen z.passes) z.mind.thought turns.Moved)) (sym k)
-            (subst (λ (u : Thought).
+            (turned_to (state_seen z.passes) z.task_state.position turns.Moved)) (sym k)
+            (subst (λ (u : Position).
             Goes consts t m.old (turned_to (state_seen passes) u turns.Moved))
-            heard tells.goes);
+            resumed tells.goes);
       }
 
 -- ---- the task before room was made for its replies
@@ -217,8 +220,8 @@ module _ (consts : WorldConsts) (t t2 : Tasked) (passes : PassesValue) (g : Hash
 -- the task with more room for its replies
 pub record HasRoom (t0 t : Tasked) : Type 0 where
   pub number : t.number ≡ t0.number
-  pub program : t.mind.program ≡ t0.mind.program
-  pub thought : t.mind.thought ≡ t0.mind.thought
+  pub program : t.task_state.program ≡ t0.task_state.program
+  pub position : t.task_state.position ≡ t0.task_state.position
   pub passes : t.passes ≡ t0.passes
 
 module _ (consts : WorldConsts) (t0 t t2 : Tasked) (room : HasRoom t0 t) where
@@ -227,27 +230,29 @@ module _ (consts : WorldConsts) (t0 t t2 : Tasked) (room : HasRoom t0 t) where
   steps_with turn s = record {
     old = s.old;
     goes = λ programs.
-        let same : step_task (scene_of consts programs) t0.number t0.mind.program s.old
-        t0.mind.thought
-        ≡ step_task (scene_of consts programs) t.number t.mind.program s.old t.mind.thought =
+        let same : step_task (scene_of consts programs) t0.number t0.task_state.program s.old
+        t0.task_state.position
+        ≡ step_task (scene_of consts programs) t.number t.task_state.program s.old
+        t.task_state.position =
         λ i. step_task (scene_of consts programs) (sym room.number i) (sym room.program i) s.old
-        (sym room.thought i) in
+        (sym room.position i) in
         same ∙ s.goes programs;
   }
 
   -- what blocks the step is the same as without the additional room
   pub blocked_with : (passes : PassesValue)
-      → IsBlockedBy consts t.number t.passes passes (step_at t.mind.program t.mind.thought.mind)
+      → IsBlockedBy consts t.number t.passes passes
+      (step_at t.task_state.program t.task_state.position.call_state)
       → IsBlockedBy consts t0.number t0.passes passes
-      (step_at t0.mind.program t0.mind.thought.mind)
+      (step_at t0.task_state.program t0.task_state.position.call_state)
   blocked_with passes b =
-      let due : step_at t.mind.program t.mind.thought.mind
-      ≡ step_at t0.mind.program t0.mind.thought.mind =
-      λ i. step_at (room.program i) (room.thought i).mind in
+      let due : step_at t.task_state.program t.task_state.position.call_state
+      ≡ step_at t0.task_state.program t0.task_state.position.call_state =
+      λ i. step_at (room.program i) (room.position i).call_state in
       subst (λ (n : ℕ). IsBlockedBy consts n t0.passes passes
-      (step_at t0.mind.program t0.mind.thought.mind)) room.number
+      (step_at t0.task_state.program t0.task_state.position.call_state)) room.number
       (subst (λ (p : PassesValue). IsBlockedBy consts t.number p passes
-      (step_at t0.mind.program t0.mind.thought.mind)) room.passes
+      (step_at t0.task_state.program t0.task_state.position.call_state)) room.passes
       (subst (λ (z : Option Step). IsBlockedBy consts t.number t.passes passes z) due b))
 
   -- if the task made no step, its passes have no new entries

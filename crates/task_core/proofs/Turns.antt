@@ -1,8 +1,8 @@
 -- What a task can rely on at its turn, and its state after the turn.
 use Rattle.std.proofs.Common.{◌≡◌, ℕ, ◌+◌, List, ◌∷◌, length, Option, Some, None, refl, sym, ◌∙◌, ap, subst}
 use Rattle.std.specs.Prelude.{IfOk, Result, Ok, slice_get, unwrap_or}
-use Rattle.call_steps.specs.Mind.{Step}
-use Rattle.call_steps.specs.Mind.{Appends, Checks, Does, Signals}
+use Rattle.call_steps.specs.CallState.{Step}
+use Rattle.call_steps.specs.CallState.{Appends, Checks, Does, Signals}
 use Rattle.call_steps.specs.Steps.{given}
 use Rattle.inode_events.specs.Checks.{no_action}
 use Rattle.inode_events.specs.NewestFirst.{newest_first}
@@ -17,7 +17,7 @@ use Rattle.inode_meta.specs.declared.step.Who.{Who}
 use Rattle.policy_rules.specs.ActionValue.{ActionValue}
 use Rattle.policy_rules.specs.RuleValue.{RuleValue}
 use Rattle.policy_rules.specs.declared.rule.Func.{Func}
-use Rattle.run_model.specs.History.{Answer, Thought, hear, step_at, who_at}
+use Rattle.run_model.specs.History.{Answer, Position, resume, step_at, who_at}
 use Rattle.run_model.specs.Scene.{Program}
 use Rattle.run_model.specs.Turns.{State}
 use Rattle.run_model.specs.declared.turn.Turn.TheVariants as turns
@@ -30,9 +30,9 @@ use Rattle.world_locks.specs.worlds.Due.{slot_in}
 use Rattle.world_locks.specs.worlds.Plays.{task_after, task_left}
 use Rattle.world_locks.specs.worlds.Ready.{HasLooked, IsReady, IsStepOn}
 use Rattle.world_locks.specs.acts.declared.listed.Checks.{Checks as Asked}
-use Rattle.task_mind.specs.Steps.{step_in}
-use Rattle.task_mind.specs.Value.{IsSameTask, TaskValue, due_at}
-use Rattle.task_mind.specs.declared.step.Step.{Step as Named}
+use Rattle.task_state.specs.Steps.{step_in}
+use Rattle.task_state.specs.Value.{IsSameTask, TaskValue, due_at}
+use Rattle.task_state.specs.declared.step.Step.{Step as Named}
 use Rattle.world_locks.proofs.about_acts.Checked.{check_reaches}
 use Rattle.world_locks.proofs.about_acts.Reaching.{does_reaches, same_left}
 use Rattle.world_locks.proofs.about_acts.Sharing.{appends_tells, signals_reach}
@@ -46,24 +46,24 @@ use Rattle.world_locks.specs.acts.declared.answers.TurnResult.TheVariants as tur
 
 module _ (consts : WorldConsts) (n room : ℕ) (g : HashState) (passes : PassesValue)
     (h : List Answer) where
-  -- the task with these parts of its mind has played the history
-  abbrev PlayedWith : Program → Thought → ActionValue → Type 0
+  -- the task with these parts of its state has played the history
+  abbrev PlayedWith : Program → Position → ActionValue → Type 0
   PlayedWith p t c = HasPlayed consts (record {
     number = n;
-    mind = record { program = p; thought = t; checked = c; spare = room };
+    task_state = record { program = p; position = t; checked = c; spare = room };
     hash_state = g;
     passes = passes;
   }) h
 
-  -- a mind with equal parts has played the same history
-  with_words : (a : TaskValue) (p : Program) (t : Thought) (c : ActionValue) → a.program ≡ p
-      → a.thought ≡ t → a.checked ≡ c
-      → HasPlayed consts (record { number = n; mind = a; hash_state = g; passes = passes }) h
+  -- a state with equal parts has played the same history
+  with_words : (a : TaskValue) (p : Program) (t : Position) (c : ActionValue) → a.program ≡ p
+      → a.position ≡ t → a.checked ≡ c
+      → HasPlayed consts (record { number = n; task_state = a; hash_state = g; passes = passes }) h
       → PlayedWith p t c
   with_words a p t c e f k x =
       subst (λ (q : Program). PlayedWith q t c) e
-      (subst (λ (u : Thought). PlayedWith a.program u c) f
-      (subst (λ (d : ActionValue). PlayedWith a.program a.thought d) k
+      (subst (λ (u : Position). PlayedWith a.program u c) f
+      (subst (λ (d : ActionValue). PlayedWith a.program a.position d) k
       (record {
         calls = x.calls;
         stands = x.stands;
@@ -82,17 +82,17 @@ module _ (consts : WorldConsts) (n room : ℕ) (g : HashState) (passes : PassesV
 -- a task with other spare capacity has played the same history
 played_same : (consts : WorldConsts) (n : ℕ) (a b : TaskValue) (g : HashState)
     (passes : PassesValue) (h : List Answer) → IsSameTask a b
-    → HasPlayed consts (record { number = n; mind = a; hash_state = g; passes = passes }) h
-    → HasPlayed consts (record { number = n; mind = b; hash_state = g; passes = passes }) h
+    → HasPlayed consts (record { number = n; task_state = a; hash_state = g; passes = passes }) h
+    → HasPlayed consts (record { number = n; task_state = b; hash_state = g; passes = passes }) h
 played_same consts n a b g passes h s x =
-    with_words consts n b.spare g passes h a b.program b.thought b.checked (sym s.program)
-    (sym s.thought) (sym s.checked) x
+    with_words consts n b.spare g passes h a b.program b.position b.checked (sym s.program)
+    (sym s.position) (sym s.checked) x
 
 -- a task with other spare capacity is a task of the same worlds
 pub task_same : (consts : WorldConsts) (n : ℕ) (a b : TaskValue) (g : HashState)
     (passes : PassesValue) → IsSameTask a b
-    → IsTask consts (record { number = n; mind = a; hash_state = g; passes = passes })
-    → IsTask consts (record { number = n; mind = b; hash_state = g; passes = passes })
+    → IsTask consts (record { number = n; task_state = a; hash_state = g; passes = passes })
+    → IsTask consts (record { number = n; task_state = b; hash_state = g; passes = passes })
 task_same consts n a b g passes s x = record {
   history = x.history;
   played = played_same consts n a b g passes x.history s x.played;
@@ -100,19 +100,19 @@ task_same consts n a b g passes s x = record {
 
 module _ (consts : WorldConsts) (t : Tasked) (is : IsTask consts t) where
   abbrev due : Option Step
-  due = step_at t.mind.program t.mind.thought.mind
+  due = step_at t.task_state.program t.task_state.position.call_state
 
   abbrev who : Who
-  who = who_at t.number t.mind.program t.mind.thought.mind
+  who = who_at t.number t.task_state.program t.task_state.position.call_state
 
   -- after a look the task's step is ready
   pub turn_ready : (i : ℕ) (d : Deed) → IsStepOn i d due
-      → ReadyAt consts i t.passes.inodes who.task t.hash_state t.mind.checked
-      (slot_in (due_at t.mind.program t.mind.thought.mind)) d
+      → ReadyAt consts i t.passes.inodes who.task t.hash_state t.task_state.checked
+      (slot_in (due_at t.task_state.program t.task_state.position.call_state)) d
   turn_ready i d on s q list here at looked =
-      let number = task_of_who t.number t.mind.program t.mind.thought.mind in
-      subst (λ (n : ℕ). IsReady (inode_in consts s) (n + 1) list t.hash_state t.mind.checked
-      (slot_in (due_at t.mind.program t.mind.thought.mind)) d) (sym number)
+      let number = task_of_who t.number t.task_state.program t.task_state.position.call_state in
+      subst (λ (n : ℕ). IsReady (inode_in consts s) (n + 1) list t.hash_state t.task_state.checked
+      (slot_in (due_at t.task_state.program t.task_state.position.call_state)) d) (sym number)
       (ready_by_look consts t is.history i s q list d is.played here at
       (subst (λ (n : ℕ). HasLooked (inode_in consts s) (n + 1) q.seen list q.mine) number looked)
       on)
@@ -120,13 +120,14 @@ module _ (consts : WorldConsts) (t : Tasked) (is : IsTask consts t) where
   -- the task's passes are those of the caller of its step
   pub passes_ready : (w : Who) → w ≡ who → ArePassesOf consts w.task t.passes
   passes_ready w e =
-      let number = task_of_who t.number t.mind.program t.mind.thought.mind in
+      let number = task_of_who t.number t.task_state.program t.task_state.position.call_state in
       subst (λ (x : Who). ArePassesOf consts x.task t.passes) (sym e)
       (subst (λ (n : ℕ). ArePassesOf consts n t.passes) (sym number) is.played.passes)
 
   -- the step is ready for any `Who`, action and slot that equal the task's
   ready_by : (w : Who) (action : ActionValue) (slot : Slot) (i : ℕ) (d : Deed) → w ≡ who
-      → action ≡ t.mind.checked → slot ≡ slot_in (due_at t.mind.program t.mind.thought.mind)
+      → action ≡ t.task_state.checked
+      → slot ≡ slot_in (due_at t.task_state.program t.task_state.position.call_state)
       → IsStepOn i d due
       → ReadyAt consts i t.passes.inodes w.task t.hash_state action slot d
   ready_by w action slot i d e f k on =
@@ -134,11 +135,12 @@ module _ (consts : WorldConsts) (t : Tasked) (is : IsTask consts t) where
       (sym e)
       (subst (λ (a : ActionValue). ReadyAt consts i t.passes.inodes who.task t.hash_state a slot d)
       (sym f)
-      (subst (λ (z : Slot). ReadyAt consts i t.passes.inodes who.task t.hash_state t.mind.checked
-      z d) (sym k) (turn_ready i d on)))
+      (subst (λ (z : Slot). ReadyAt consts i t.passes.inodes who.task t.hash_state
+      t.task_state.checked z d) (sym k) (turn_ready i d on)))
 
   pub does_ready : (w : Who) (action : ActionValue) (slot : Slot) (i : ℕ) (d : Deed) → w ≡ who
-      → action ≡ t.mind.checked → slot ≡ slot_in (due_at t.mind.program t.mind.thought.mind)
+      → action ≡ t.task_state.checked
+      → slot ≡ slot_in (due_at t.task_state.program t.task_state.position.call_state)
       → due ≡ Some (Does i d)
       → ReadyAt consts i t.passes.inodes w.task t.hash_state action slot d
   does_ready w action slot i d e f k st =
@@ -147,8 +149,8 @@ module _ (consts : WorldConsts) (t : Tasked) (is : IsTask consts t) where
 
   -- a check needs nothing hashed
   pub checks_ready : (w : Who) (action : ActionValue) (slot : Slot) (i file : ℕ) (func : Func)
-      (mask : ℕ) → w ≡ who → action ≡ t.mind.checked
-      → slot ≡ slot_in (due_at t.mind.program t.mind.thought.mind)
+      (mask : ℕ) → w ≡ who → action ≡ t.task_state.checked
+      → slot ≡ slot_in (due_at t.task_state.program t.task_state.position.call_state)
       → due ≡ Some (Checks i file func mask)
       → (g : HashState) → ReadyAt consts i t.passes.inodes w.task g action slot
       (deed.Check file func no_action 0)
@@ -167,9 +169,9 @@ due_is o s x e f = sym f ∙ ap (λ (z : Named). Some (step_in z)) e
 -- ---- how the turn ends
 
 module _ (consts : WorldConsts) (t : Tasked) (old new : State) (passes : PassesValue) (w : Who)
-    (w_is : w ≡ who_at t.number t.mind.program t.mind.thought.mind) where
+    (w_is : w ≡ who_at t.number t.task_state.program t.task_state.position.call_state) where
   abbrev asks : Option Step
-  asks = step_at t.mind.program t.mind.thought.mind
+  asks = step_at t.task_state.program t.task_state.position.call_state
 
   -- a turn with a deed on an inode
   pub does_turn : {E : Type 0} (i : ℕ) (d : Deed) (g : HashState) (r : Result (Option StepResult) E)
@@ -188,7 +190,7 @@ module _ (consts : WorldConsts) (t : Tasked) (old new : State) (passes : PassesV
   pub check_turn : {E : Type 0} (i : ℕ) (asked : Asked) (cred : Cred)
       (r : Result (Option StepResult) E) (x : Result TurnResult E)
       → asks ≡ Some (Checks i asked.file asked.func asked.mask)
-      → cred ≡ t.mind.program.cred
+      → cred ≡ t.task_state.program.cred
       → ((g : HashState)
       → CheckIn consts i (slice_get consts.each_inode i) w cred asked old new t.passes
       passes g r) → x ≡ turn_result_of r
@@ -196,8 +198,8 @@ module _ (consts : WorldConsts) (t : Tasked) (old new : State) (passes : PassesV
   check_turn {E} i asked cred r x st c e is =
       subst (λ (z : Result TurnResult E). TurnsTo consts t old new passes t.hash_state z) (sym is)
       (check_reaches consts t i asked.file asked.func asked.mask old new passes st r
-      (subst (λ (y : Who). CheckIn consts i (slice_get consts.each_inode i) y t.mind.program.cred
-      asked old new t.passes passes t.hash_state r) w_is
+      (subst (λ (y : Who). CheckIn consts i (slice_get consts.each_inode i) y
+      t.task_state.program.cred asked old new t.passes passes t.hash_state r) w_is
       (subst (λ (k : Cred). CheckIn consts i (slice_get consts.each_inode i) w k asked old
       new t.passes passes t.hash_state r) c (e t.hash_state))))
 
@@ -232,17 +234,19 @@ module _ (consts : WorldConsts) (t : Tasked) (old new : State) (passes : PassesV
 
 module _ (consts : WorldConsts) (t : Tasked) (old new : State) (passes : PassesValue)
     (g : HashState) where
-  -- the task after it heard the answer
-  pub heard_task : (a : StepResult) (mind : TaskValue) (x : Tells consts t old new passes g a)
-      → IsTask consts t → mind.program ≡ t.mind.program
-      → mind.thought ≡ hear (mode_in consts) t.mind.program t.mind.thought (answer_of a x.rules)
-      → mind.checked ≡ unwrap_or a.action t.mind.checked
-      → IsTask consts (task_after t mind passes g)
-  heard_task a mind x is program thought checked = record {
+  -- the task after it took the answer
+  pub resumed_task : (a : StepResult) (task_state : TaskValue)
+      (x : Tells consts t old new passes g a)
+      → IsTask consts t → task_state.program ≡ t.task_state.program
+      → task_state.position
+      ≡ resume (mode_in consts) t.task_state.program t.task_state.position (answer_of a x.rules)
+      → task_state.checked ≡ unwrap_or a.action t.task_state.checked
+      → IsTask consts (task_after t task_state passes g)
+  resumed_task a task_state x is program position checked = record {
     history = answer_of a x.rules ∷ is.history;
-    played = x.plays is.history mind is.played (record {
+    played = x.plays is.history task_state is.played (record {
       program = program;
-      thought = thought;
+      position = position;
       checked = checked ∙ x.checked;
     });
   }
@@ -250,23 +254,24 @@ module _ (consts : WorldConsts) (t : Tasked) (old new : State) (passes : PassesV
 -- the task in its world after the turn, with the same constants
 module _ (consts after : WorldConsts) (t : Tasked) (old new : State) (passes : PassesValue)
     (g : HashState) (same : after ≡ consts) (is : IsTask consts t) where
-  -- the task after it heard the answer is still one of its world
-  told_still : (a : StepResult) (mode : Mode) (action : Option ActionValue) (mind : TaskValue)
+  -- the task after it took the answer is still one of its world
+  told_still : (a : StepResult) (mode : Mode) (action : Option ActionValue) (task_state : TaskValue)
       → Tells consts t old new passes g a → mode ≡ mode_in consts → action ≡ a.action
-      → mind.program ≡ t.mind.program
-      → ((rules : ℕ) → mind.thought ≡ hear mode t.mind.program t.mind.thought
+      → task_state.program ≡ t.task_state.program
+      → ((rules : ℕ) → task_state.position ≡ resume mode t.task_state.program t.task_state.position
       (record { place = a.place; told = a.told; action = given action; rules = rules }))
-      → mind.checked ≡ unwrap_or action t.mind.checked
-      → IsTask after (task_after t mind passes g)
-  told_still a mode action mind x m k program thought checked =
-      subst (λ (y : WorldConsts). IsTask y (task_after t mind passes g)) (sym same)
-      (heard_task consts t old new passes g a mind x is program
-      (thought x.rules
-      ∙ ap (λ (y : Mode). hear y t.mind.program t.mind.thought
+      → task_state.checked ≡ unwrap_or action t.task_state.checked
+      → IsTask after (task_after t task_state passes g)
+  told_still a mode action task_state x m k program position checked =
+      subst (λ (y : WorldConsts). IsTask y (task_after t task_state passes g)) (sym same)
+      (resumed_task consts t old new passes g a task_state x is program
+      (position x.rules
+      ∙ ap (λ (y : Mode). resume y t.task_state.program t.task_state.position
       (record { place = a.place; told = a.told; action = given action; rules = x.rules })) m
-      ∙ ap (λ (y : Option ActionValue). hear (mode_in consts) t.mind.program t.mind.thought
+      ∙ ap (λ (y : Option ActionValue). resume (mode_in consts) t.task_state.program
+      t.task_state.position
       (record { place = a.place; told = a.told; action = given y; rules = x.rules })) k)
-      (checked ∙ ap (λ (y : Option ActionValue). unwrap_or y t.mind.checked) k))
+      (checked ∙ ap (λ (y : Option ActionValue). unwrap_or y t.task_state.checked) k))
 
   -- the task that made no step is still one of its world
   pub left_still : StillPlays consts t passes g → IsTask after (task_left t passes g)
@@ -294,17 +299,18 @@ module _ (consts after : WorldConsts) (t : Tasked) (old new : State) (passes : P
       subst (λ (z : Tasked). IsTask after z) (sym k) (left_still stops.plays)
 
   pub moved_still : {E : Type 0} (r : Result TurnResult E) (x : TurnResult) (after_turn : Tasked)
-      (a : StepResult) (mode : Mode) (action : Option ActionValue) (mind : TaskValue)
+      (a : StepResult) (mode : Mode) (action : Option ActionValue) (task_state : TaskValue)
       → r ≡ Ok x → x ≡ turn_result.Told a → TurnsTo consts t old new passes g r
-      → after_turn ≡ task_after t mind passes g → mode ≡ mode_in consts → action ≡ a.action
-      → mind.program ≡ t.mind.program
-      → ((rules : ℕ) → mind.thought ≡ hear mode t.mind.program t.mind.thought
+      → after_turn ≡ task_after t task_state passes g → mode ≡ mode_in consts → action ≡ a.action
+      → task_state.program ≡ t.task_state.program
+      → ((rules : ℕ) → task_state.position ≡ resume mode t.task_state.program t.task_state.position
       (record { place = a.place; told = a.told; action = given action; rules = rules }))
-      → mind.checked ≡ unwrap_or action t.mind.checked
+      → task_state.checked ≡ unwrap_or action t.task_state.checked
       → IsTask after after_turn
-  moved_still {E} r x after_turn a mode action mind e f h k m same_action program thought checked =
+  moved_still {E} r x after_turn a mode action task_state e f h k m same_action program position
+      checked =
       let tells : Tells consts t old new passes g a =
       subst (λ (z : Result TurnResult E). TurnsTo consts t old new passes g z)
       (e ∙ ap (λ (z : TurnResult). Ok z) f) h in
       subst (λ (z : Tasked). IsTask after z) (sym k)
-      (told_still a mode action mind tells m same_action program thought checked)
+      (told_still a mode action task_state tells m same_action program position checked)

@@ -3,7 +3,7 @@ pub mod TaskFields
 pub mod Shared
 pub mod Cells
 pub use Rattle.world_model.specs as worlds
-pub use Rattle.task_mind.specs as minds
+pub use Rattle.task_state.specs as task_states
 pub use Rattle.world_close.specs as ends
 pub use Rattle.world_model.specs.laws_of_progress
 pub use Rattle.world_start.specs as starts

@@ -1,7 +1,7 @@
 -- The effect of a step on a task, in a world that threads share.
 use Rattle.std.specs.Prelude.{◌≡◌, ℕ, ◌+◌, Option, Some, None, Result, Ok, Err, slice_get}
-use Rattle.call_steps.specs.Mind.{Step}
-use Rattle.call_steps.specs.Mind.{Checks, Does, Signals}
+use Rattle.call_steps.specs.CallState.{Step}
+use Rattle.call_steps.specs.CallState.{Checks, Does, Signals}
 use Rattle.grow_list.specs.Shown.{Passed}
 use Rattle.inode_events.specs.Asked.{outcome}
 use Rattle.inode_events.specs.NewestFirst.{newest_first}
@@ -56,9 +56,9 @@ pub record TurnsToMet {E : Type 0} (consts : WorldConsts) (t : Tasked) (passes :
   pub reaches : TurnsTo consts t old (state_seen passes) passes g r
   pub idle : IsIdle r → mines_of passes ≡ mines_of t.passes
   pub blocked : r ≡ Ok turn_result.Blocked → IsBlockedBy consts t.number t.passes passes
-      (step_at t.mind.program t.mind.thought.mind)
+      (step_at t.task_state.program t.task_state.position.call_state)
 
 -- the task made its turn on some lists, and its passes have seen these lists as the turn left them
 pub record StepsTo (consts : WorldConsts) (t t2 : Tasked) (r : Turn) : Type 0 where
   pub old : State
-  pub goes : Goes consts t old (turned_to (state_seen t2.passes) t2.mind.thought r)
+  pub goes : Goes consts t old (turned_to (state_seen t2.passes) t2.task_state.position r)

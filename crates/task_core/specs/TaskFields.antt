@@ -8,9 +8,15 @@ use Rattle.world_model.specs.Tasks.{Tasked}
 
 abbrev pub tasked_of : Inside → Tasked
 tasked_of t =
-    record { number = t.number; mind = t.mind; hash_state = t.hash_state; passes = t.passes }
+    record {
+      number = t.number;
+      task_state = t.task_state;
+      hash_state = t.hash_state;
+      passes = t.passes;
+    }
 
 -- the place (`Who`) of the step that comes next, if the program isn't over
 abbrev pub who_of : Tasked → Option Who
-who_of t = option_map (λ (c : Call). who_at t.number t.mind.program t.mind.thought.mind)
-    (call_at t.mind.program t.mind.thought.mind)
+who_of t = option_map
+    (λ (c : Call). who_at t.number t.task_state.program t.task_state.position.call_state)
+    (call_at t.task_state.program t.task_state.position.call_state)

@@ -5,13 +5,13 @@ ghost use Rattle.std.specs.Prelude.{◌≡◌, IfOk, slice_get};
 ghost use Rattle.inode_events.specs.Checks.{no_action};
 ghost use Rattle.world_model.specs.Tasks.{ArePassesOf};
 ghost use Rattle.world_model.specs.declared.hash_state.HashState.{HashState as AnyHashState};
-ghost use Rattle.task_mind.specs.Steps.{deed_in};
+ghost use Rattle.task_state.specs.Steps.{deed_in};
 ghost use Rattle.world_locks.specs.acts.Acting.{EventIn, IsSaid, ReadyAt, told_in};
 ghost use Rattle.world_locks.specs.acts.Checking.{CheckIn};
 
 use crate::world::World;
 use std::alloc::AllocError as OutOfMemory;
-use task_mind::Doing;
+use task_state::DueDeed;
 use world_locks::acts::{Actor, Checks, StepResult, apply_at, check_at};
 use world_model::{HashState, Passes};
 
@@ -23,7 +23,7 @@ impl World {
         i: u32,
         passes: &mut Passes,
         actor: &Actor<'_>,
-        doing: Doing<'_>,
+        doing: DueDeed<'_>,
         hash_state: &mut HashState,
     ) -> Result<Option<StepResult>, OutOfMemory>
         requires passes { ArePassesOf self.old.consts actor.now.who.task passes.old }

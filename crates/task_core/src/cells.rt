@@ -8,7 +8,7 @@ ghost use Rattle.task_core.specs.Cells.{IsCellAt};
 
 use crate::task::Task;
 use crate::world::World;
-use task_mind::TaskMind;
+use task_state::TaskState;
 use world_model::inodes::InodeCell;
 
 impl World {
@@ -32,9 +32,9 @@ impl World {
 
 impl Task {
     /// What the task knows of its own calls.
-    pub fn mind(&self) -> &TaskMind
-        ensures { result.now ≡ self.now.mind }
+    pub fn task_state(&self) -> &TaskState
+        ensures { result.now ≡ self.now.task_state }
     {
-        &self.mind
+        &self.task_state
     }
 }

@@ -17,7 +17,7 @@ ghost use Rattle.world_model.specs.Tasks.{Tasked};
 ghost use Rattle.world_model.specs.WorldRuns.{moment_in, scene_in};
 ghost use Rattle.world_close.specs.Finished.{HaveMade, IsFinished};
 ghost use Rattle.world_close.specs.Leaves.{are_stuck, done_by, may_append, rests, task_left};
-ghost use Rattle.world_close.specs.Settled.{HasEnded, HaveSameMinds, is_over};
+ghost use Rattle.world_close.specs.Settled.{HasEnded, HaveSameTaskStates, is_over};
 
 use crate::task::Task;
 use crate::world::World;
@@ -35,7 +35,7 @@ pub fn look_all(world: &mut World, tasks: &mut Vec<Task>)
     ensures state { world.new.state ≡ world.old.state }
     ensures made { HaveMade world.old.consts world.old.state tasks.new.items }
     ensures tasks { AreTasks world.old.consts tasks.new.items }
-    ensures same { HaveSameMinds tasks.old.items tasks.new.items }
+    ensures same { HaveSameTaskStates tasks.old.items tasks.new.items }
 {
     for k in 0..tasks.len() {
         tasks[k].look(world);
@@ -45,14 +45,14 @@ pub fn look_all(world: &mut World, tasks: &mut Vec<Task>)
 fn are_done(tasks: &[Task]) -> bool
     ensures { result ≡ list_all done_by tasks.now }
 {
-    tasks.iter().all(|task| task.mind.is_done())
+    tasks.iter().all(|task| task.task_state.is_done())
 }
 
 // Whether no task can go on.
 fn all_rest(tasks: &[Task], sems: &SemaphoreCell) -> bool
     ensures { result ≡ list_all (rests (λ sem. left sem (newest_first sems.now.list))) tasks.now }
 {
-    tasks.iter().all(|task| rests(&task.mind, sems))
+    tasks.iter().all(|task| rests(&task.task_state, sems))
 }
 
 // Whether some task isn't done, and none can go on.
@@ -66,7 +66,7 @@ fn are_stuck(tasks: &[Task], sems: &SemaphoreCell) -> bool
 fn may_grow(tasks: &[Task]) -> bool
     ensures { result ≡ list_any may_append tasks.now }
 {
-    tasks.iter().any(|task| task.mind.appends())
+    tasks.iter().any(|task| task.task_state.appends())
 }
 
 impl Task {
@@ -77,11 +77,11 @@ impl Task {
     {
         let Task {
             number: _,
-            mind,
+            task_state,
             hash_state: _,
             passes,
         } = self;
-        (passes, mind.end())
+        (passes, task_state.end())
     }
 }
 

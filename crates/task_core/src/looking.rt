@@ -17,7 +17,8 @@ impl Task {
         ensures still { IsTask world.new.consts self.new }
         ensures consts { world.new.consts ≡ world.old.consts }
         ensures state { world.new.state ≡ world.old.state }
-        ensures same { (self.new.number ≡ self.old.number) × (self.new.mind ≡ self.old.mind) }
+        ensures same { (self.new.number ≡ self.old.number)
+            × (self.new.task_state ≡ self.old.task_state) }
     {
         let passes = &mut self.passes;
         look_at_inodes(&mut world.parts.world_inodes, &mut passes.inodes);

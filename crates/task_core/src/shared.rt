@@ -15,7 +15,7 @@ use inode_events::{Deed, Told};
 use run_model::Turn;
 use std::alloc::AllocError as OutOfMemory;
 use std::sync::Wait;
-use task_mind::{Step, TaskMind};
+use task_state::{Step, TaskState};
 use world_locks::Name;
 use world_locks::acts::{Actor, Checks, StepResult, TurnResult, turn_result_of};
 use world_model::{HashState, Passes};
@@ -25,33 +25,33 @@ impl<N: Name> Live<N> {
     fn try_step<R: Wait>(
         &self,
         rt: &R,
-        mind: &TaskMind,
+        task_state: &TaskState,
         number: u32,
         passes: &mut Passes,
         hash_state: &mut HashState,
     ) -> Result<TurnResult, OutOfMemory>
         requires { IsTask N.consts (record {
           number = number;
-          mind = mind.now;
+          task_state = task_state.now;
           hash_state = hash_state.old;
           passes = passes.old;
         }) }
         ensures { TurnsToMet N.consts (record {
           number = number;
-          mind = mind.now;
+          task_state = task_state.now;
           hash_state = hash_state.old;
           passes = passes.old;
         }) passes.new hash_state.new result }
     {
-        let who = mind.who(number);
+        let who = task_state.who(number);
         let actor = Actor {
             who,
-            cred: mind.cred(),
-            action: mind.checked(),
-            slot: slot_due(mind),
+            cred: task_state.cred(),
+            action: task_state.checked(),
+            slot: slot_due(task_state),
         };
         let locks = &self.locks;
-        match mind.next() {
+        match task_state.next() {
             None => Ok(TurnResult::Over),
             Some(Step::Nothing) => Ok(TurnResult::Told(StepResult {
                 place: 0,
@@ -110,19 +110,19 @@ impl Task {
         ensures go { IfOk result (λ r. StepsTo N.consts self.old self.new r) }
         ensures still { IsTask N.consts self.new }
         ensures number { self.new.number ≡ self.old.number }
-        ensures program { self.new.mind.program ≡ self.old.mind.program }
+        ensures program { self.new.task_state.program ≡ self.old.task_state.program }
         ensures blocked { IfOk result (λ r. r ≡ Turn.Blocked → IsBlockedBy N.consts self.old.number
             self.old.passes self.new.passes
-            (step_at self.old.mind.program self.old.mind.thought.mind)) }
+            (step_at self.old.task_state.program self.old.task_state.position.call_state)) }
         ensures idle { IfOk result (λ r. is_moved r ≡ false
             → mines_of self.new.passes ≡ mines_of self.old.passes) }
-        ensures err { OnErr result ((self.new.mind.thought ≡ self.old.mind.thought)
+        ensures err { OnErr result ((self.new.task_state.position ≡ self.old.task_state.position)
             × (mines_of self.new.passes ≡ mines_of self.old.passes)) }
     {
-        self.mind.reserve()?;
+        self.task_state.reserve()?;
         match world.try_step(
             rt,
-            &self.mind,
+            &self.task_state,
             self.number,
             &mut self.passes,
             &mut self.hash_state,
@@ -130,7 +130,7 @@ impl Task {
             TurnResult::Over => Ok(Turn::Done),
             TurnResult::Blocked => Ok(Turn::Blocked),
             TurnResult::Told(answered) => {
-                self.mind.hear(
+                self.task_state.resume(
                     world.locks.mode(),
                     &answered.told,
                     answered.place,

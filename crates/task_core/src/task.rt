@@ -8,7 +8,7 @@ use call_steps::Call;
 use inode_meta::{Cred, Who};
 use std::alloc::{AllocError as OutOfMemory, Global};
 use std::marker::Model;
-use task_mind::TaskMind;
+use task_state::TaskState;
 use world_model::{HashState, Passes};
 
 /// A task. Contracts see its number, its knowledge of its own calls, what it has hashed, and its
@@ -16,7 +16,7 @@ use world_model::{HashState, Passes};
 #[derive(Drop)]
 pub struct Task {
     pub(crate) number: u32,
-    pub(crate) mind: TaskMind,
+    pub(crate) task_state: TaskState,
     pub(crate) hash_state: HashState,
     pub(crate) passes: Passes,
 }
@@ -43,20 +43,20 @@ impl Task {
         passes: Passes,
     ) -> Result<Task, OutOfMemory>
         ensures number { IfOk result (λ t. t.number ≡ number) }
-        ensures program { IfOk result (λ t. t.mind.program ≡ record {
+        ensures program { IfOk result (λ t. t.task_state.program ≡ record {
           cred = cred;
           calls = program.items;
         }) }
-        ensures thought { IfOk result (λ t. t.mind.thought ≡ start) }
+        ensures position { IfOk result (λ t. t.task_state.position ≡ start) }
         ensures passes { IfOk result (λ t. t.passes ≡ passes) }
         ensures task { IfOk result (λ t. (consts : WorldConsts) → ArePassesOf consts number passes
             → AreUnused passes → AreCallsOf (length consts.each_inode) program.items
             → IsTask consts t) }
     {
-        let mind = TaskMind::new(alloc, cred, program)?;
+        let task_state = TaskState::new(alloc, cred, program)?;
         Ok(Task {
             number,
-            mind,
+            task_state,
             hash_state: HashState::Idle,
             passes,
         })
@@ -67,9 +67,9 @@ impl Task {
     pub fn who(&self) -> Option<Who>
         ensures { result ≡ who_of self.now }
     {
-        if self.mind.is_over() {
+        if self.task_state.is_over() {
             return None;
         }
-        Some(self.mind.who(self.number))
+        Some(self.task_state.who(self.number))
     }
 }

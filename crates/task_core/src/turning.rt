@@ -7,7 +7,7 @@ ghost use Rattle.world_locks.specs.acts.Turning.{TurnsTo, turned_to};
 ghost use Rattle.world_model.specs.WorldConsts.{scene_of};
 ghost use Rattle.world_model.specs.Tasks.{IsTask};
 ghost use Rattle.world_locks.specs.worlds.Due.{slot_in};
-ghost use Rattle.task_mind.specs.Value.{due_at};
+ghost use Rattle.task_state.specs.Value.{due_at};
 
 use crate::task::Task;
 use crate::world::World;
@@ -16,15 +16,15 @@ use inode_events::{Deed, Told};
 use inode_meta::Slot;
 use run_model::Turn;
 use std::alloc::AllocError as OutOfMemory;
-use task_mind::{Step, TaskMind};
+use task_state::{Step, TaskState};
 use world_locks::acts::{Actor, Checks, StepResult, TurnResult, turn_result_of};
 use world_model::{HashState, Passes};
 
 // The slot of a take, if one is due.
-pub(crate) fn slot_due(mind: &TaskMind) -> Slot
-    ensures { result ≡ slot_in (due_at mind.now.program mind.now.thought.mind) }
+pub(crate) fn slot_due(task_state: &TaskState) -> Slot
+    ensures { result ≡ slot_in (due_at task_state.now.program task_state.now.position.call_state) }
 {
-    match mind.due() {
+    match task_state.due() {
         Some(Ask::Take { slot }) => slot,
         _ => Slot::File,
     }
@@ -34,33 +34,33 @@ impl World {
     /// Makes the step that is due for the task with these passes and hashes.
     fn try_step(
         &mut self,
-        mind: &TaskMind,
+        task_state: &TaskState,
         number: u32,
         passes: &mut Passes,
         hash_state: &mut HashState,
     ) -> Result<TurnResult, OutOfMemory>
         requires { IsTask self.old.consts (record {
           number = number;
-          mind = mind.now;
+          task_state = task_state.now;
           hash_state = hash_state.old;
           passes = passes.old;
         }) }
         ensures consts { self.new.consts ≡ self.old.consts }
         ensures reaches { TurnsTo self.old.consts (record {
           number = number;
-          mind = mind.now;
+          task_state = task_state.now;
           hash_state = hash_state.old;
           passes = passes.old;
         }) self.old.state self.new.state passes.new hash_state.new result }
     {
-        let who = mind.who(number);
+        let who = task_state.who(number);
         let actor = Actor {
             who,
-            cred: mind.cred(),
-            action: mind.checked(),
-            slot: slot_due(mind),
+            cred: task_state.cred(),
+            action: task_state.checked(),
+            slot: slot_due(task_state),
         };
-        match mind.next() {
+        match task_state.next() {
             None => Ok(TurnResult::Over),
             Some(Step::Nothing) => Ok(TurnResult::Told(StepResult {
                 place: 0,
@@ -94,19 +94,19 @@ impl Task {
     pub fn step(&mut self, world: &mut World) -> Result<Turn, OutOfMemory>
         requires { IsTask world.old.consts self.old }
         ensures go { IfOk result (λ r. (programs : List Program)
-            → step_task (scene_of world.old.consts programs) self.old.number self.old.mind.program
-            world.old.state self.old.mind.thought
-            ≡ turned_to world.new.state self.new.mind.thought r) }
+            → step_task (scene_of world.old.consts programs) self.old.number
+            self.old.task_state.program world.old.state self.old.task_state.position
+            ≡ turned_to world.new.state self.new.task_state.position r) }
         ensures still { IsTask world.new.consts self.new }
         ensures consts { world.new.consts ≡ world.old.consts }
         ensures number { self.new.number ≡ self.old.number }
-        ensures program { self.new.mind.program ≡ self.old.mind.program }
+        ensures program { self.new.task_state.program ≡ self.old.task_state.program }
         ensures err { OnErr result ((world.new.state ≡ world.old.state)
-            × (self.new.mind.thought ≡ self.old.mind.thought)) }
+            × (self.new.task_state.position ≡ self.old.task_state.position)) }
     {
-        self.mind.reserve()?;
+        self.task_state.reserve()?;
         match world.try_step(
-            &self.mind,
+            &self.task_state,
             self.number,
             &mut self.passes,
             &mut self.hash_state,
@@ -114,7 +114,7 @@ impl Task {
             TurnResult::Over => Ok(Turn::Done),
             TurnResult::Blocked => Ok(Turn::Blocked),
             TurnResult::Told(answered) => {
-                self.mind.hear(
+                self.task_state.resume(
                     world.parts.settings.mode,
                     &answered.told,
                     answered.place,

@@ -61,7 +61,7 @@ gone_more consts a b c x y = record {
 -- one of the tasks made a step
 pub gone_step : (consts : WorldConsts) (tasks : List Tasked) (k : ℕ) (t t2 : Tasked)
     → All (IsTask consts) tasks → slice_get tasks k ≡ Some t → t2.number ≡ t.number
-    → t2.mind.program ≡ t.mind.program → IsTask consts t2
+    → t2.task_state.program ≡ t.task_state.program → IsTask consts t2
     → HaveGone consts tasks (slice_set tasks k t2)
 gone_step consts tasks k t t2 all there number program task = record {
   even = length-set tasks k t2;

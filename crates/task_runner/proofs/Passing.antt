@@ -26,16 +26,17 @@ stays_and_steps : (consts : WorldConsts) (t mid t2 : Tasked) (r : Option Turn) �
 stays_and_steps consts t mid t2 (Some r) h s = record {
   old = s.old;
   goes = λ programs.
-      let same : step_task (scene_of consts programs) mid.number mid.mind.program s.old
-      mid.mind.thought
-      ≡ step_task (scene_of consts programs) t.number t.mind.program s.old t.mind.thought =
-      λ i. step_task (scene_of consts programs) (h.number i) (h.program i) s.old (h.thought i) in
+      let same : step_task (scene_of consts programs) mid.number mid.task_state.program s.old
+      mid.task_state.position
+      ≡ step_task (scene_of consts programs) t.number t.task_state.program s.old
+      t.task_state.position =
+      λ i. step_task (scene_of consts programs) (h.number i) (h.program i) s.old (h.position i) in
       sym same ∙ s.goes programs;
 }
 stays_and_steps consts t mid t2 None h s = record {
   number = s.number ∙ h.number;
   program = s.program ∙ h.program;
-  thought = s.thought ∙ h.thought;
+  position = s.position ∙ h.position;
   mines = s.mines ∙ h.mines;
 }
 
@@ -88,7 +89,7 @@ pass_none consts tasks = record {
     each = λ k t t2 at at2.
         let same : t ≡ t2 = same_Some t t2 (sym at ∙ at2) in
         subst (λ (u : Tasked). HasStayed t u) same
-        (record { number = refl; program = refl; thought = refl; mines = refl });
+        (record { number = refl; program = refl; position = refl; mines = refl });
   };
   moves = refl;
 }

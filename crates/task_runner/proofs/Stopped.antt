@@ -7,7 +7,7 @@ use Rattle.std.proofs.lemmas.List.{length-append, length-map, take-append-le, ta
 use Rattle.run_model.specs.Rounds.{all_tasks, any_moves, numbers}
 use Rattle.run_model.specs.Scene.{Scene}
 use Rattle.run_model.specs.Turns.{Moment, turns_of}
-use Rattle.task_core.specs.worlds.Runs.{program_of, programs_of, thought_of}
+use Rattle.task_core.specs.worlds.Runs.{position_of, program_of, programs_of}
 use Rattle.task_core.specs.worlds.Tasks.{Tasked}
 use Rattle.task_core.specs.worlds.World.{WorldValue}
 use Rattle.task_core.proofs.about_worlds.Turning.{scene_same}
@@ -16,13 +16,14 @@ use Rattle.task_runner.specs.Stops.{StopsIn, StopsInRounds}
 
 -- the moment is as before if the lists and where the task stands are
 pub moment_same : (world world2 : WorldValue) (tasks : List Tasked) (k : ℕ) (t t2 : Tasked)
-    → t ≡ get_or tasks k t → world2.state ≡ world.state → t2.mind.thought ≡ t.mind.thought
+    → t ≡ get_or tasks k t → world2.state ≡ world.state
+    → t2.task_state.position ≡ t.task_state.position
     → moment_in world2 (slice_set tasks k t2) ≡ moment_in world tasks
-moment_same world world2 tasks k t t2 there state thought =
-    let thoughts : map thought_of (slice_set tasks k t2) ≡ map thought_of tasks =
-    map-set_same thought_of tasks k t2 t
-    (thought ∙ ap (λ (u : Tasked). u.mind.thought) there) in
-    λ i. record { state = state i; thoughts = thoughts i }
+moment_same world world2 tasks k t t2 there state position =
+    let positions : map position_of (slice_set tasks k t2) ≡ map position_of tasks =
+    map-set_same position_of tasks k t2 t
+    (position ∙ ap (λ (u : Tasked). u.task_state.position) there) in
+    λ i. record { state = state i; positions = positions i }
 
 -- there are n numbers below n
 length_numbers : (n : ℕ) → length (numbers n) ≡ n

@@ -8,11 +8,11 @@ use Rattle.task_core.specs.worlds.WorldConsts.{WorldConsts}
 use Rattle.task_core.specs.worlds.Runs.{AreTasks}
 use Rattle.task_core.specs.worlds.Tasks.{Tasked}
 use Rattle.task_core.specs.worlds.World.{WorldValue}
-use Rattle.task_core.specs.minds.Value.{TaskValue}
+use Rattle.task_core.specs.task_states.Value.{TaskValue}
 use Rattle.task_runner.proofs.Running.{same_run_even}
 use Rattle.task_core.proofs.about_worlds.Turning.{scene_same}
 use Rattle.task_core.specs.worlds.WorldRuns.{SameRun, scene_in}
-use Rattle.task_core.specs.ends.Settled.{HaveSameMinds, mind_of}
+use Rattle.task_core.specs.ends.Settled.{HaveSameTaskStates, task_state_of}
 
 -- no task moves, by the scene at the start
 pub none_stirs : (world after : WorldValue) (old new : List Tasked) (m : Moment)
@@ -25,14 +25,14 @@ none_stirs world after old new m runs stops k below =
 
 -- the tasks that looked at all lists still belong to the same world
 pub settled_runs : (world after : WorldValue) (old new : List Tasked)
-    → after.consts ≡ world.consts → AreTasks world.consts new → HaveSameMinds old new
+    → after.consts ≡ world.consts → AreTasks world.consts new → HaveSameTaskStates old new
     → SameRun world after old new
-settled_runs world after old new same tasks minds =
+settled_runs world after old new same tasks task_states =
     let own : TaskValue → Program = λ m. m.program in
     record {
       consts = same;
-      programs = sym (map-map own mind_of new)
-          ∙ ap (λ (ms : List TaskValue). map own ms) minds
-          ∙ map-map own mind_of old;
+      programs = sym (map-map own task_state_of new)
+          ∙ ap (λ (ms : List TaskValue). map own ms) task_states
+          ∙ map-map own task_state_of old;
       each = subst (λ (f : WorldConsts). AreTasks f new) (sym same) tasks;
     }

@@ -9,7 +9,7 @@ pub record GoneFrom (consts : WorldConsts) (old : List Tasked) (k : ℕ) (t : Ta
   pub before : Tasked
   pub at : slice_get old k ≡ Some before
   pub number : t.number ≡ before.number
-  pub program : t.mind.program ≡ before.mind.program
+  pub program : t.task_state.program ≡ before.task_state.program
   pub task : IsTask consts t
 
 pub record HaveGone (consts : WorldConsts) (old new : List Tasked) : Type 0 where

@@ -4,7 +4,7 @@ use Rattle.std.specs.List.{flat_map, list_any}
 use Rattle.run_model.specs.Rounds.{RoundsTo, is_moved}
 use Rattle.run_model.specs.declared.turn.Turn.{Turn}
 use Rattle.task_core.specs.Shared.{StepsTo}
-use Rattle.task_core.specs.ends.Settled.{HaveSameMinds}
+use Rattle.task_core.specs.ends.Settled.{HaveSameTaskStates}
 use Rattle.task_core.specs.worlds.WorldConsts.{WorldConsts}
 use Rattle.task_core.specs.worlds.Tasks.{Tasked}
 use Rattle.task_core.specs.worlds.World.{WorldValue}
@@ -16,8 +16,8 @@ use Rattle.world_locks.specs.Met.{mines_of}
 -- the task made no turn: it is where it was, and no list has an entry more of it
 pub record HasStayed (t t2 : Tasked) : Type 0 where
   pub number : t2.number ≡ t.number
-  pub program : t2.mind.program ≡ t.mind.program
-  pub thought : t2.mind.thought ≡ t.mind.thought
+  pub program : t2.task_state.program ≡ t.task_state.program
+  pub position : t2.task_state.position ≡ t.task_state.position
   pub mines : mines_of t2.passes ≡ mines_of t.passes
 
 -- the task made a turn with this answer, or none
@@ -108,5 +108,5 @@ pub record HasRunOnThreads (world after : WorldValue) (n : ℕ) (old new : List 
   pub parts : HaveRunInParts world.consts n old mid
   pub back : WorldValue
   pub looked : List Tasked
-  pub minds : HaveSameMinds mid looked
+  pub task_states : HaveSameTaskStates mid looked
   pub rounds : RoundsTo (scene_in world old) (moment_in back looked) (moment_in after new)

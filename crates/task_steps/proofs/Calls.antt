@@ -23,15 +23,15 @@ use Rattle.task_steps.specs.worlds.World.{WorldInodeValue, inode_consts_of, jour
 use Rattle.task_steps.specs.worlds.declared.hash_state.HashState.{HashState}
 use Rattle.task_steps.proofs.about_worlds.Eventing.{get_map}
 use Rattle.task_steps.specs.worlds.Ready.{HasLooked, IsReady}
-use Rattle.task_steps.specs.minds.Steps.{deed_in}
-use Rattle.task_steps.specs.minds.declared.step.Doing.{Doing}
-use Rattle.task_steps.specs.minds.declared.step.Doing.TheVariants as doing
+use Rattle.task_steps.specs.task_states.Steps.{deed_in}
+use Rattle.task_steps.specs.task_states.declared.step.DueDeed.{DueDeed}
+use Rattle.task_steps.specs.task_states.declared.step.DueDeed.TheVariants as doing
 use Rattle.task_steps.specs.Acting.{IsPlacedAt, IsSaid, ReadyAt, told_of}
 use Rattle.world_model.specs.Parts.{AreParts, consts_by, state_by}
 use Rattle.task_steps.specs.declared.answers.StepResult.{StepResult}
 
 -- no deed other than a check counts rules
-pub does_count : (n : ℕ) (x : Doing) → CountsAll n (deed_in x)
+pub does_count : (n : ℕ) (x : DueDeed) → CountsAll n (deed_in x)
 does_count n doing.Birth = tt
 does_count n (doing.Count how) = tt
 does_count n (doing.Take file) = tt

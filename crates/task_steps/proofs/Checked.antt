@@ -9,13 +9,13 @@ use Rattle.inode_events.specs.declared.deed.Deed.{Deed}
 use Rattle.inode_events.specs.declared.deed.Deed.TheVariants as deed
 use Rattle.inode_events.specs.declared.told.Event.{Event}
 use Rattle.inode_meta.specs.declared.step.Who.{Who}
-use Rattle.call_steps.specs.Mind.{Step}
-use Rattle.call_steps.specs.Mind.{Checks}
+use Rattle.call_steps.specs.CallState.{Step}
+use Rattle.call_steps.specs.CallState.{Checks}
 use Rattle.call_steps.specs.Steps.{given}
 use Rattle.policy_rules.specs.RuleValue.{RuleValue}
 use Rattle.policy_rules.specs.declared.access.Action.{Action}
 use Rattle.policy_rules.specs.declared.rule.Func.{Func}
-use Rattle.run_model.specs.History.{Answer, hear, step_at, who_at}
+use Rattle.run_model.specs.History.{Answer, resume, step_at, who_at}
 use Rattle.run_model.specs.Scene.{Program, ScriptFile, decided, rules_with}
 use Rattle.run_model.specs.Turns.{State, step_check, step_due, step_event}
 use Rattle.run_model.specs.declared.turn.Turn.TheVariants as turns
@@ -25,7 +25,7 @@ use Rattle.task_steps.specs.worlds.Tasks.{HasPlayed, PassesValue, Tasked, action
 use Rattle.task_steps.proofs.about_worlds.Blocking.{none_is_played}
 use Rattle.task_steps.proofs.about_worlds.Eventing.{check_is_played, get_map}
 use Rattle.task_steps.specs.worlds.Events.{EventOn}
-use Rattle.task_steps.specs.worlds.Plays.{HasHeard, IsStepFor, check_answer, task_after}
+use Rattle.task_steps.specs.worlds.Plays.{HasResumed, IsStepFor, check_answer, task_after}
 use Rattle.task_steps.proofs.Going.{goes_event}
 use Rattle.task_steps.proofs.Reaching.{get_map_none, same_left, unmoved}
 use Rattle.task_steps.specs.Checking.{CheckIn, IsCheckedBy}
@@ -34,12 +34,13 @@ use Rattle.task_steps.specs.declared.answers.StepResult.{StepResult}
 
 module _ (consts : WorldConsts) (t : Tasked) (i file : ℕ) (func : Func) (mask : ℕ) (old new : State)
     (passes : PassesValue)
-    (st : step_at t.mind.program t.mind.thought.mind ≡ Some (Checks i file func mask)) where
+    (st : step_at t.task_state.program t.task_state.position.call_state
+    ≡ Some (Checks i file func mask)) where
   abbrev p : Program
-  p = t.mind.program
+  p = t.task_state.program
 
   abbrev who : Who
-  who = who_at t.number p t.mind.thought.mind
+  who = who_at t.number p t.task_state.position.call_state
 
   abbrev asked : Asked
   asked = record { file = file; func = func; mask = mask }
@@ -84,33 +85,33 @@ module _ (consts : WorldConsts) (t : Tasked) (i file : ℕ) (func : Func) (mask 
         (newest_first xs)) (sym is)
 
     goes : Goes consts t old (turned_to new
-        (hear (mode_in consts) p t.mind.thought (answer_of a count)) turns.Moved)
+        (resume (mode_in consts) p t.task_state.position (answer_of a count)) turns.Moved)
     goes programs =
         let scene = scene_of consts programs in
-        ap (step_due scene t.number p old t.mind.thought) st
+        ap (step_due scene t.number p old t.task_state.position) st
         ∙ ap (λ (x : Option ScriptFile).
-        step_check scene t.number p old t.mind.thought i x file func mask)
+        step_check scene t.number p old t.task_state.position i x file func mask)
         (get_map (script_file_of consts) consts.each_inode i s there)
-        ∙ ap (λ (xs : List Event). step_event scene t.number p old t.mind.thought i
+        ∙ ap (λ (xs : List Event). step_event scene t.number p old t.task_state.position i
         (inode_in consts s) (check_on s xs) (action_on s xs) count)
         (get_or_from_slice_get old.journals i e.journal [] e.journal_at ∙ is)
         ∙ goes_event consts t i s (check_on s journal) old new passes t.hash_state (Some a.told) e
         there tells programs (action_on s journal) count
-        ∙ ap (λ (b : Answer). turned_to new (hear (mode_in consts) p t.mind.thought b) turns.Moved)
-        same
+        ∙ ap (λ (b : Answer). turned_to new (resume (mode_in consts) p t.task_state.position b)
+        turns.Moved) same
 
     check_tells : passes.rules.seen ≡ old.added → Tells consts t old new passes t.hash_state a
     check_tells seen = record {
       rules = count;
-      checked = ap (λ (x : Option Action). unwrap_or x t.mind.checked) by.action
+      checked = ap (λ (x : Option Action). unwrap_or x t.task_state.checked) by.action
           ∙ sym (ap given by.action)
-          ∙ sym (ap (λ (z : Option Step). action_by z (answer_of a count) t.mind.checked) st);
-      plays = λ h mind x hd. subst (λ (b : Answer).
-          HasPlayed consts (task_after t mind passes t.hash_state) (b ∷ h)) same
+          ∙ sym (ap (λ (z : Option Step). action_by z (answer_of a count) t.task_state.checked) st);
+      plays = λ h task_state x hd. subst (λ (b : Answer).
+          HasPlayed consts (task_after t task_state passes t.hash_state) (b ∷ h)) same
           (check_is_played consts t h i s file func mask (action_on s journal) count a.told old new
-          passes t.hash_state mind x st there e tells seen refl
+          passes t.hash_state task_state x st there e tells seen refl
           (ap (action_on s) (sym is))
-          (subst (λ (b : Answer). HasHeard consts t b mind) (sym same) hd));
+          (subst (λ (b : Answer). HasResumed consts t b task_state) (sym same) hd));
       goes = goes;
     }
 
@@ -121,11 +122,11 @@ module _ (consts : WorldConsts) (t : Tasked) (i file : ℕ) (func : Func) (mask 
     plays = same_left consts t passes t.hash_state f refl;
     goes = λ programs.
         let scene = scene_of consts programs in
-        ap (step_due scene t.number p old t.mind.thought) st
+        ap (step_due scene t.number p old t.task_state.position) st
         ∙ ap (λ (x : Option ScriptFile).
-        step_check scene t.number p old t.mind.thought i x file func mask)
+        step_check scene t.number p old t.task_state.position i x file func mask)
         (get_map_none (script_file_of consts) consts.each_inode i there)
-        ∙ ap (λ (x : State). turned_to x t.mind.thought turns.Blocked) (sym e);
+        ∙ ap (λ (x : State). turned_to x t.task_state.position turns.Blocked) (sym e);
   }
 
   by_inode_consts : {E : Type 0} (r : Result (Option StepResult) E) (o : Option InodeConsts)

@@ -5,7 +5,7 @@ use Rattle.std.proofs.lemmas.List.{append-nil, set-get_or}
 use Rattle.inode_events.specs.declared.deed.Deed.{Deed}
 use Rattle.inode_events.specs.declared.told.Event.{Event}
 use Rattle.inode_meta.specs.declared.step.Who.{Who}
-use Rattle.call_steps.specs.Mind.{Does}
+use Rattle.call_steps.specs.CallState.{Does}
 use Rattle.run_model.specs.History.{Answer, step_at, who_at}
 use Rattle.run_model.specs.Scene.{ScriptFile}
 use Rattle.run_model.specs.Turns.{State, state_on, step_does, step_due}
@@ -44,9 +44,10 @@ same_left consts t passes g e f h x =
 
 module _ (consts : WorldConsts) (t : Tasked) (i : ℕ) (d : Deed) (old new : State)
     (passes : PassesValue)
-    (g : HashState) (st : step_at t.mind.program t.mind.thought.mind ≡ Some (Does i d)) where
+    (g : HashState) (st : step_at t.task_state.program t.task_state.position.call_state
+    ≡ Some (Does i d)) where
   abbrev who : Who
-  who = who_at t.number t.mind.program t.mind.thought.mind
+  who = who_at t.number t.task_state.program t.task_state.position.call_state
 
   -- on an inode that isn't there the turn is blocked
   none_stops : slice_get consts.each_inode i ≡ None → new ≡ old → passes ≡ t.passes
@@ -55,11 +56,15 @@ module _ (consts : WorldConsts) (t : Tasked) (i : ℕ) (d : Deed) (old new : Sta
     plays = same_left consts t passes g f k;
     goes = λ programs.
         let scene = scene_of consts programs in
-        ap (step_due scene t.number t.mind.program old t.mind.thought) st
+        ap (step_due scene t.number t.task_state.program old t.task_state.position) st
         ∙ ap (λ (x : Option ScriptFile).
-        step_does scene t.number t.mind.program old t.mind.thought i x d)
+        step_does scene t.number t.task_state.program old t.task_state.position i x d)
         (get_map_none (script_file_of consts) consts.each_inode i there)
-        ∙ ap (λ (x : State). record { state = x; thought = t.mind.thought; turn = turns.Blocked })
+        ∙ ap (λ (x : State). record {
+          state = x;
+          position = t.task_state.position;
+          turn = turns.Blocked;
+        })
         (sym e);
   }
 

@@ -19,13 +19,13 @@ use Rattle.inode_meta.specs.declared.step.Who.{Who}
 use Rattle.policy_cell.specs.declared.cell.RuleEntry.{RuleEntry}
 use Rattle.policy_rules.specs.ActionValue.{ActionValue}
 use Rattle.policy_rules.specs.declared.access.Action.{Action}
-use Rattle.call_steps.specs.Mind.{Step}
-use Rattle.call_steps.specs.Mind.{Nothing, Does, Checks, Signals, Appends}
+use Rattle.call_steps.specs.CallState.{Step}
+use Rattle.call_steps.specs.CallState.{Nothing, Does, Checks, Signals, Appends}
 use Rattle.task_steps.specs.laws_of_runs.Checks.{IsPlainStep, seen_by}
-use Rattle.run_model.specs.History.{Answer, hear, plain_answer, rule_in, signal_in, step_at, who_at}
+use Rattle.run_model.specs.History.{Answer, plain_answer, resume, rule_in, signal_in, step_at, who_at}
 use Rattle.run_model.specs.Scene.{Program}
 use Rattle.policy_rules.specs.RuleValue.{RuleValue}
-use Rattle.run_model.specs.Turns.{State, hear_told, step_due, turn_of}
+use Rattle.run_model.specs.Turns.{State, resume_told, step_due, turn_of}
 use Rattle.run_model.specs.declared.turn.Turn.TheVariants as turns
 use Rattle.task_steps.proofs.Going.{answer_same}
 use Rattle.task_steps.specs.Acting.{IsPlacedAt, told_in, told_of}
@@ -61,30 +61,32 @@ is_done before d u e = absurd (cc)
 
 module _ (consts : WorldConsts) (t : Tasked) where
   abbrev due : Option Step
-  due = step_at t.mind.program t.mind.thought.mind
+  due = step_at t.task_state.program t.task_state.position.call_state
 
   abbrev who : Who
-  who = who_at t.number t.mind.program t.mind.thought.mind
+  who = who_at t.number t.task_state.program t.task_state.position.call_state
 
   -- a quiet step that was made, by its answer
   quiet_tells : (old new : State) (passes : PassesValue) (a : StepResult) (place : ℕ)
       → IsQuiet due → a.place ≡ place → a.action ≡ None
       → QuietPasses consts t passes (plain_answer place a.told)
-      → ((programs : List Program) → step_due (scene_of consts programs) t.number t.mind.program old
-      t.mind.thought due ≡ turned_to new
-      (hear (mode_in consts) t.mind.program t.mind.thought (plain_answer place a.told))
-      turns.Moved)
+      → ((programs : List Program)
+      → step_due (scene_of consts programs) t.number t.task_state.program old
+      t.task_state.position due ≡ turned_to new
+      (resume (mode_in consts) t.task_state.program t.task_state.position
+      (plain_answer place a.told)) turns.Moved)
       → Tells consts t old new passes t.hash_state a
   quiet_tells old new passes a place quiet e f y goes =
       let same : plain_answer place a.told ≡ answer_of a 0 = answer_same a place e f in
       record {
         rules = 0;
-        checked = checked_quiet t.mind.checked a due quiet f;
-        plays = λ h mind x hd. quiet_is_played consts t h (answer_of a 0) passes mind x quiet
-            (subst (λ (b : Answer). QuietPasses consts t passes b) same y) hd;
+        checked = checked_quiet t.task_state.checked a due quiet f;
+        plays = λ h task_state x hd. quiet_is_played consts t h (answer_of a 0) passes task_state
+            x quiet (subst (λ (b : Answer). QuietPasses consts t passes b) same y) hd;
         goes = λ programs. goes programs
             ∙ ap (λ (b : Answer). turned_to new
-            (hear (mode_in consts) t.mind.program t.mind.thought b) turns.Moved) same;
+            (resume (mode_in consts) t.task_state.program t.task_state.position b) turns.Moved)
+            same;
       }
 
   -- a step that does nothing was made
@@ -108,9 +110,10 @@ module _ (consts : WorldConsts) (t : Tasked) where
             (ap (plain_answer 0) k);
       })
       (λ programs.
-      ap (step_due (scene_of consts programs) t.number t.mind.program old t.mind.thought) st
-      ∙ ap (λ (z : Told). turned_to old
-      (hear (mode_in consts) t.mind.program t.mind.thought (plain_answer 0 z)) turns.Moved) (sym k))
+      ap (step_due (scene_of consts programs) t.number t.task_state.program old
+      t.task_state.position) st ∙ ap (λ (z : Told). turned_to old
+      (resume (mode_in consts) t.task_state.program t.task_state.position (plain_answer 0 z))
+      turns.Moved) (sym k))
 
   -- a post or a wait
   module _ (d : Deed) (old new : State) (passes : PassesValue) (st : due ≡ Some (Signals d)) where
@@ -144,18 +147,19 @@ module _ (consts : WorldConsts) (t : Tasked) where
 
     signals_go : (o : Option Told) → SignalsOn old new t.passes passes who d o
         → o ≡ semaphore_says (newest_first old.signals) d → (programs : List Program)
-        → step_due (scene_of consts programs) t.number t.mind.program old t.mind.thought due
-        ≡ turned_to new
-        (hear_told (mode_in consts) t.mind.program t.mind.thought (length old.signals)
-        no_action 0 o) (turn_of o)
+        → step_due (scene_of consts programs) t.number t.task_state.program old
+        t.task_state.position due ≡ turned_to new
+        (resume_told (mode_in consts) t.task_state.program t.task_state.position
+        (length old.signals) no_action 0 o) (turn_of o)
     signals_go o e f programs =
-        ap (step_due (scene_of consts programs) t.number t.mind.program old t.mind.thought) st
+        ap (step_due (scene_of consts programs) t.number t.task_state.program old
+        t.task_state.position) st
         ∙ ap (λ (z : Option Told). turned_to (record old { signals = old.signals ++ made who d z })
-        (hear_told (mode_in consts) t.mind.program t.mind.thought (length old.signals)
-        no_action 0 z) (turn_of z)) (sym f)
+        (resume_told (mode_in consts) t.task_state.program t.task_state.position
+        (length old.signals) no_action 0 z) (turn_of z)) (sym f)
         ∙ ap (λ (x : State). turned_to x
-        (hear_told (mode_in consts) t.mind.program t.mind.thought (length old.signals)
-        no_action 0 o) (turn_of o)) (sym e.state)
+        (resume_told (mode_in consts) t.task_state.program t.task_state.position
+        (length old.signals) no_action 0 o) (turn_of o)) (sym e.state)
 
     pub signals_reach : {E : Type 0} (r : Result (Option StepResult) E)
         → SignalsOn old new t.passes passes who d (told_in r)
@@ -218,10 +222,10 @@ module _ (consts : WorldConsts) (t : Tasked) where
         (subst (λ (u : Told). QuietPasses consts t passes (plain_answer (length old.added) u))
         (sym x.1) (appends_quiet e))
         (λ programs.
-        ap (step_due (scene_of consts programs) t.number t.mind.program old t.mind.thought) st
-        ∙ ap (λ (y : State). turned_to y
-        (hear (mode_in consts) t.mind.program t.mind.thought
+        ap (step_due (scene_of consts programs) t.number t.task_state.program old
+        t.task_state.position) st ∙ ap (λ (y : State). turned_to y
+        (resume (mode_in consts) t.task_state.program t.task_state.position
         (plain_answer (length old.added) told.Done)) turns.Moved) (sym e.state)
         ∙ ap (λ (u : Told). turned_to new
-        (hear (mode_in consts) t.mind.program t.mind.thought
+        (resume (mode_in consts) t.task_state.program t.task_state.position
         (plain_answer (length old.added) u)) turns.Moved) (sym x.1))

@@ -8,4 +8,4 @@ pub mod Turning
 pub use Rattle.world_model.specs.inodes
 pub use Rattle.world_model.specs.laws_of_runs
 pub use Rattle.world_model.specs as worlds
-pub use Rattle.task_mind.specs as minds
+pub use Rattle.task_state.specs as task_states

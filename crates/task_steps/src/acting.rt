@@ -4,7 +4,7 @@ ghost use Rattle.std.specs.Prelude.{◌≡◌, ◌+◌, IfOk, length};
 ghost use Rattle.inode_events.specs.Asked.{outcome};
 ghost use Rattle.inode_events.specs.NewestFirst.{newest_first};
 ghost use Rattle.task_steps.specs.worlds.Ready.{HasLooked, IsReady};
-ghost use Rattle.task_steps.specs.minds.Steps.{deed_in};
+ghost use Rattle.task_steps.specs.task_states.Steps.{deed_in};
 ghost use Rattle.task_steps.specs.Acting.{IsPlacedAt, WorldInodeDid, told_in, told_of};
 
 use crate::answers::{StepResult, told_at};
@@ -14,7 +14,7 @@ use ima_templates::Entry;
 use inode_events::Event;
 use measure_book::Book;
 use std::alloc::AllocError as OutOfMemory;
-use task_mind::Doing;
+use task_state::DueDeed;
 use world_model::{HashState, WorldInode};
 
 /// Does the deed on the inode, through its task's passes of the journal and of the measurement
@@ -25,7 +25,7 @@ pub fn apply_at(
     book: &mut Book,
     listed: &mut Pass<Entry>,
     actor: &Actor<'_>,
-    doing: Doing<'_>,
+    doing: DueDeed<'_>,
     hash_state: &mut HashState,
 ) -> Result<Option<StepResult>, OutOfMemory>
     requires name { pass.old.name ≡ world_inode.old.cell.journal }

@@ -6,7 +6,7 @@ ghost use Rattle.inode_events.specs.Asked.{outcome};
 ghost use Rattle.inode_events.specs.NewestFirst.{newest_first};
 ghost use Rattle.task_steps.specs.Hashed.{IsAloneDeed};
 ghost use Rattle.task_steps.specs.worlds.Ready.{HasLooked, IsReady};
-ghost use Rattle.task_steps.specs.minds.Steps.{deed_in};
+ghost use Rattle.task_steps.specs.task_states.Steps.{deed_in};
 ghost use Rattle.task_steps.specs.Acting.{IsPlacedAt, WorldInodeDidAlone, told_in, told_of};
 
 use crate::answers::{StepResult, told_at};
@@ -14,7 +14,7 @@ use crate::{Actor, look_and_apply_alone};
 use grow_list::Pass;
 use inode_events::Event;
 use std::alloc::AllocError as OutOfMemory;
-use task_mind::Doing;
+use task_state::DueDeed;
 use world_model::{HashState, WorldInode};
 
 /// Does a deed that doesn't consult the measurement list on the inode, through its task's pass of
@@ -23,7 +23,7 @@ pub fn apply_alone_at(
     world_inode: &mut WorldInode,
     pass: &mut Pass<Event>,
     actor: &Actor<'_>,
-    doing: Doing<'_>,
+    doing: DueDeed<'_>,
     hash_state: &mut HashState,
 ) -> Result<Option<StepResult>, OutOfMemory>
     requires name { pass.old.name ≡ world_inode.old.cell.journal }

@@ -7,7 +7,7 @@ ghost use Rattle.world_model.specs.inodes.Acts.{Acts, MayBy, Stays};
 ghost use Rattle.task_steps.specs.Hashed.{IsCollectingDeed};
 ghost use Rattle.world_model.specs.Due.{HashesTold};
 ghost use Rattle.world_model.specs.Tasks.{HashesBefore};
-ghost use Rattle.task_mind.specs.Steps.{deed_in};
+ghost use Rattle.task_state.specs.Steps.{deed_in};
 
 use crate::gathering::{gather, sums};
 use grow_list::Pass;
@@ -15,7 +15,7 @@ use inode_events::{Event, Told};
 use inode_hashing::Hashing;
 use inode_meta::Who;
 use std::alloc::AllocError as OutOfMemory;
-use task_mind::Doing;
+use task_state::DueDeed;
 use world_model::HashState;
 use world_model::inodes::answers::{finished_told, piece_told};
 use world_model::inodes::{CloseTaken, InodeCell};
@@ -125,7 +125,7 @@ pub fn collect(
     cell: &mut InodeCell,
     pass: &mut Pass<Event>,
     who: Who,
-    doing: Doing<'_>,
+    doing: DueDeed<'_>,
     hash_state: &mut HashState,
 ) -> Result<Option<Told>, OutOfMemory>
     requires name { pass.old.name ≡ cell.old.journal }
@@ -141,10 +141,10 @@ pub fn collect(
     ensures kept { OnErr result (hash_state.new ≡ hash_state.old) }
 {
     match doing {
-        Doing::Chunk(file) => Ok(Some(chunk(cell, pass, who, file, hash_state)?)),
-        Doing::CloseTake(file) => close_take(cell, pass, who, file, hash_state),
-        Doing::CloseChunk(file) => Ok(Some(close_chunk(cell, pass, who, file, hash_state)?)),
-        Doing::CloseFinish(file) => Ok(Some(close_finish(cell, pass, who, file, hash_state)?)),
+        DueDeed::Chunk(file) => Ok(Some(chunk(cell, pass, who, file, hash_state)?)),
+        DueDeed::CloseTake(file) => close_take(cell, pass, who, file, hash_state),
+        DueDeed::CloseChunk(file) => Ok(Some(close_chunk(cell, pass, who, file, hash_state)?)),
+        DueDeed::CloseFinish(file) => Ok(Some(close_finish(cell, pass, who, file, hash_state)?)),
         _ => unreachable!(),
     }
 }

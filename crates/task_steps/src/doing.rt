@@ -7,14 +7,14 @@ ghost use Rattle.inode_events.specs.Asked.{outcome};
 ghost use Rattle.inode_events.specs.Checks.{no_action};
 ghost use Rattle.inode_events.specs.NewestFirst.{newest_first};
 ghost use Rattle.inode_events.specs.State.{metadata};
-ghost use Rattle.task_mind.specs.matching.Decision.{access_of, decide_of};
+ghost use Rattle.task_state.specs.matching.Decision.{access_of, decide_of};
 ghost use Rattle.ima_templates.specs.declared.entry.Entry.{Entry as AnyEntry};
 ghost use Rattle.task_steps.specs.Hashed.{IsAloneDeed, goes_on};
 ghost use Rattle.world_model.specs.Tasks.{HashesBefore};
 ghost use Rattle.world_model.specs.Due.{HashesTold};
 ghost use Rattle.task_steps.specs.Leaving.{Leaves, told_by, told_in};
 ghost use Rattle.world_model.specs.Ready.{HasLooked, IsReady};
-ghost use Rattle.task_mind.specs.Steps.{deed_in};
+ghost use Rattle.task_state.specs.Steps.{deed_in};
 
 use crate::collecting::collect;
 use crate::listed::{self, Checks};
@@ -26,7 +26,7 @@ use measure_book::Book;
 use policy_cell::matching::Index;
 use policy_rules::{Action, Super};
 use std::alloc::AllocError as OutOfMemory;
-use task_mind::Doing;
+use task_state::DueDeed;
 use world_model::HashState;
 use world_model::inodes::InodeCell;
 
@@ -48,7 +48,7 @@ fn dispatch_alone(
     cell: &mut InodeCell,
     pass: &mut Pass<Event>,
     actor: &Actor<'_>,
-    doing: Doing<'_>,
+    doing: DueDeed<'_>,
     hash_state: &mut HashState,
 ) -> Result<Option<Told>, OutOfMemory>
     requires name { pass.old.name ≡ cell.old.journal }
@@ -73,12 +73,12 @@ fn dispatch_alone(
 
 // Whether the deed begins, continues or ends a collection, and doesn't consult the measurement
 // list.
-fn goes_on(doing: &Doing<'_>) -> bool
+fn goes_on(doing: &DueDeed<'_>) -> bool
     ensures { result ≡ goes_on (deed_in doing.now) }
 {
     matches!(
         doing,
-        Doing::Chunk(_) | Doing::CloseTake(_) | Doing::CloseChunk(_) | Doing::CloseFinish(_)
+        DueDeed::Chunk(_) | DueDeed::CloseTake(_) | DueDeed::CloseChunk(_) | DueDeed::CloseFinish(_)
     )
 }
 
@@ -87,7 +87,7 @@ fn dispatch(
     cell: &mut InodeCell,
     pass: &mut Pass<Event>,
     actor: &Actor<'_>,
-    doing: Doing<'_>,
+    doing: DueDeed<'_>,
     book: &mut Book,
     hash_state: &mut HashState,
 ) -> Result<Option<Told>, OutOfMemory>
@@ -107,7 +107,7 @@ fn dispatch(
 {
     let who = actor.who;
     match doing {
-        Doing::Take(file) => {
+        DueDeed::Take(file) => {
             listed::take(
                 cell,
                 pass,
@@ -119,7 +119,7 @@ fn dispatch(
                 hash_state,
             )
         }
-        Doing::Finish(file) => match listed::finish(cell, pass, who, file, book, hash_state) {
+        DueDeed::Finish(file) => match listed::finish(cell, pass, who, file, book, hash_state) {
             Ok(told) => Ok(Some(told)),
             Err(err) => Err(err),
         },
@@ -132,7 +132,7 @@ pub fn look_and_apply(
     cell: &mut InodeCell,
     pass: &mut Pass<Event>,
     actor: &Actor<'_>,
-    doing: Doing<'_>,
+    doing: DueDeed<'_>,
     book: &mut Book,
     hash_state: &mut HashState,
 ) -> Result<Option<Told>, OutOfMemory>
@@ -163,7 +163,7 @@ pub fn look_and_apply_alone(
     cell: &mut InodeCell,
     pass: &mut Pass<Event>,
     actor: &Actor<'_>,
-    doing: Doing<'_>,
+    doing: DueDeed<'_>,
     hash_state: &mut HashState,
 ) -> Result<Option<Told>, OutOfMemory>
     requires name { pass.old.name ≡ cell.old.journal }

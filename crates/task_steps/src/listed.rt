@@ -6,7 +6,7 @@ ghost use Rattle.world_model.specs.inodes.Acts.{Acts, MayBy, Stays};
 ghost use Rattle.inode_events.specs.Checks.{no_action};
 ghost use Rattle.inode_events.specs.NewestFirst.{newest_first};
 ghost use Rattle.inode_events.specs.State.{metadata};
-ghost use Rattle.task_mind.specs.matching.Decision.{access_of, decide_of};
+ghost use Rattle.task_state.specs.matching.Decision.{access_of, decide_of};
 ghost use Rattle.world_model.specs.Due.{HashesTold};
 ghost use Rattle.world_model.specs.Tasks.{HashesBefore};
 ghost use Rattle.world_model.specs.Ready.{AsksBy};

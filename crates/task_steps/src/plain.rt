@@ -5,13 +5,13 @@ ghost use Rattle.std.specs.Prelude.{◌≡◌, ℕ, ◌+◌, List, Some, IfOk, O
 ghost use Rattle.ima_templates.specs.declared.entry.Entry.{Entry as AnyEntry};
 ghost use Rattle.world_model.specs.inodes.Acts.{Acts, MayBy, Stays};
 ghost use Rattle.task_steps.specs.Hashed.{IsPlainDeed};
-ghost use Rattle.task_mind.specs.Steps.{deed_in};
+ghost use Rattle.task_state.specs.Steps.{deed_in};
 
 use grow_list::Pass;
 use inode_events::{BoxedBytes, BoxedValue, Event, Told};
 use inode_meta::{Cred, Who};
 use std::alloc::AllocError as OutOfMemory;
-use task_mind::Doing;
+use task_state::DueDeed;
 use world_model::inodes::InodeCell;
 use world_model::inodes::answers::{counted_told, set_told, wrote_told};
 
@@ -42,7 +42,7 @@ pub fn apply_plain(
     cell: &mut InodeCell,
     pass: &mut Pass<Event>,
     who: Who,
-    doing: Doing<'_>,
+    doing: DueDeed<'_>,
     cred: &Cred,
 ) -> Result<Option<Told>, OutOfMemory>
     requires name { pass.old.name ≡ cell.old.journal }
@@ -54,27 +54,27 @@ pub fn apply_plain(
     ensures err { OnErr result (Stays cell.old cell.new pass.old pass.new) }
 {
     match doing {
-        Doing::Count(how) => Ok(Some(counted_told(cell.count(pass, who, how)?))),
-        Doing::Read { file, from, len } => {
+        DueDeed::Count(how) => Ok(Some(counted_told(cell.count(pass, who, how)?))),
+        DueDeed::Read { file, from, len } => {
             let got = cell.read(pass, who, file, from, len)?;
             Ok(Some(Told::Read {
                 n: got.n,
                 digest: got.digest,
             }))
         }
-        Doing::Write { file, from, bytes } => Ok(Some(wrote_told(cell.write(
+        DueDeed::Write { file, from, bytes } => Ok(Some(wrote_told(cell.write(
             pass,
             who,
             file,
             from,
             bytes.as_slice(),
         )?))),
-        Doing::Trunc { file, len } => Ok(Some(wrote_told(cell.trunc(pass, who, file, len)?))),
-        Doing::SetAttr { name, value, admin } => {
+        DueDeed::Trunc { file, len } => Ok(Some(wrote_told(cell.trunc(pass, who, file, len)?))),
+        DueDeed::SetAttr { name, value, admin } => {
             set_attr(cell, pass, who, name, value, Cred { admin, ..*cred })
         }
-        Doing::SetMeta(change) => Ok(set_told(cell.set_meta(pass, who, change)?)),
-        Doing::Close(file) => {
+        DueDeed::SetMeta(change) => Ok(set_told(cell.set_meta(pass, who, change)?)),
+        DueDeed::Close(file) => {
             cell.close_read(pass, who, file)?;
             Ok(Some(Told::Dropped))
         }

@@ -13,7 +13,7 @@ use Rattle.inode_events.specs.declared.told.Event.{Event}
 use Rattle.inode_events.specs.declared.told.Told.TheVariants as told
 use Rattle.inode_events.specs.meta.declared.appraisal.Mode.TheVariants.{Off}
 use Rattle.inode_events.specs.policy.declared.rule.Func.TheVariants.{BprmCheck, FileCheck}
-use Rattle.run_laws.specs.model.History.{Answer, Thought, own, plain_answer}
+use Rattle.run_laws.specs.model.History.{Answer, Position, own, plain_answer}
 use Rattle.run_laws.specs.model.Rounds.{rounds}
 use Rattle.run_laws.specs.model.Scene.{Program}
 use Rattle.run_laws.specs.model.Served.{IsDecided, IsServed, RulesRise, Run, Served, events_of}
@@ -116,15 +116,15 @@ third_served = record {
 }
 
 -- the same task, with its program and its position under other names
-task_is : (n : ℕ) (p p2 : Program) (t t2 : Thought) → Some p ≡ Some p2 → Some t ≡ Some t2
+task_is : (n : ℕ) (p p2 : Program) (t t2 : Position) → Some p ≡ Some p2 → Some t ≡ Some t2
     → IsServed counting run n p t → IsServed counting run n p2 t2
 task_is n p p2 t t2 e f served =
     subst (λ (q : Program). IsServed counting run n q t2) (same_Some p p2 e)
-    (subst (λ (u : Thought). IsServed counting run n p u) (same_Some t t2 f) served)
+    (subst (λ (u : Position). IsServed counting run n p u) (same_Some t t2 f) served)
 
 -- each task is served
-tasks : (n : ℕ) (p : Program) (t : Thought) → slice_get counting.programs n ≡ Some p
-    → slice_get run.thoughts n ≡ Some t → IsServed counting run n p t
+tasks : (n : ℕ) (p : Program) (t : Position) → slice_get counting.programs n ≡ Some p
+    → slice_get run.positions n ≡ Some t → IsServed counting run n p t
 tasks zero p t e f = task_is 0 opener p (has_opened 1) t e f first_served
 tasks (suc zero) p t e f = task_is 1 opener p (has_opened 3) t e f second_served
 tasks (suc (suc zero)) p t e f = task_is 2 adder p has_finished t e f third_served
@@ -155,7 +155,7 @@ rules_rise = (omega arith, (omega arith, (omega arith, (omega arith, (omega arit
 rising : Served counting run
 rising = record {
   journals = refl;
-  thoughts = refl;
+  positions = refl;
   tasks = tasks;
   no_other_events = All-cons (All IsOfThree) journal [] (all_of_three journal refl)
       (All-nil (All IsOfThree));

@@ -8,10 +8,10 @@ use Rattle.inode_events.specs.hashes.DigestValue.{DigestValue}
 use Rattle.inode_events.specs.hashes.Digest.{zero_digest}
 use Rattle.inode_events.specs.hashes.declared.algo.Algo.TheVariants.{Sha256}
 use Rattle.inode_events.specs.meta.declared.appraisal.Mode.TheVariants.{Off}
-use Rattle.run_laws.specs.model.History.{Answer, plain_answer, step_at, thought}
+use Rattle.run_laws.specs.model.History.{Answer, plain_answer, position, step_at}
 use Rattle.run_laws.specs.model.Scene.{Program}
 use Rattle.run_laws.specs.model.steps.Handles.{hand_of}
-use Rattle.run_laws.specs.model.steps.Mind.{Does}
+use Rattle.run_laws.specs.model.steps.CallState.{Does}
 use Rattle.run_laws.specs.model.steps.Steps.{first}
 use Rattle.run_laws.specs.model.steps.declared.ask.Ask.TheVariants as ask
 use Rattle.run_laws.specs.model.steps.declared.call.Call.TheVariants as call
@@ -62,14 +62,14 @@ of_two_inodes = handle (Descriptor 0) 0 1 (how.Read false)
 -- what the task holds, and what it does next
 pub record CallExamples : Type 0 where
   -- an exec makes a run, which its end names
-  pub run_made : (thought Off executing executed).mind.handles
+  pub run_made : (position Off executing executed).call_state.handles
       ≡ handle (Run 7) 0 3 how.Exec ∷ []
-  pub run_read : (thought Off executing executed).replies ≡ reply.Bytes 3 digest ∷ []
-  pub run_ended : step_at executing (thought Off executing executed).mind
+  pub run_read : (position Off executing executed).replies ≡ reply.Bytes 3 digest ∷ []
+  pub run_ended : step_at executing (position Off executing executed).call_state
       ≡ Some (Does 0 (deed.Close 3))
   -- a second file has a name and a place of its own
-  pub two_held : (thought Off opening_two opened_two).mind.handles ≡ of_one_inode
-  pub second_read : step_at opening_two (thought Off opening_two opened_two).mind
+  pub two_held : (position Off opening_two opened_two).call_state.handles ≡ of_one_inode
+  pub second_read : step_at opening_two (position Off opening_two opened_two).call_state
       ≡ Some (Does 0 (deed.Read 5 0 2))
   -- each of two files is closed with its only name
   pub one_inode : (first (call.Close 0) (hand_of false of_one_inode (call.Close 0))).ask

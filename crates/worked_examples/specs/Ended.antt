@@ -1,7 +1,7 @@
 -- Ends of runs in which tasks post and wait.
 use Rattle.std.specs.Prelude.{◌≡◌, ℕ, true, false, List, [], ◌∷◌}
 use Rattle.run_laws.specs.model.Ended.{IsEnded, is_stuck}
-use Rattle.run_laws.specs.model.History.{Thought, start}
+use Rattle.run_laws.specs.model.History.{Position, start}
 use Rattle.run_laws.specs.model.Scene.{Program}
 use Rattle.run_laws.specs.model.steps.declared.call.Call.TheVariants as call
 use Rattle.run_laws.specs.model.steps.declared.ending.Ending.TheVariants as ending
@@ -12,11 +12,11 @@ abbrev pub posts_and_waits : ℕ → List Program
 posts_and_waits sem = task (call.Post 0 ∷ []) ∷ task (call.Wait sem ∷ []) ∷ []
 
 -- the post is answered, and the wait isn't
-abbrev pub posted : List Thought
+abbrev pub posted : List Position
 posted = has_finished ∷ start ∷ []
 
 -- both are answered
-abbrev pub both_done : List Thought
+abbrev pub both_done : List Position
 both_done = has_finished ∷ has_finished ∷ []
 
 -- how runs of these programs may end

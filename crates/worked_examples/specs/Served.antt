@@ -11,7 +11,7 @@ use Rattle.inode_events.specs.policy.RuleValue.{RuleValue}
 use Rattle.inode_events.specs.policy.declared.rule.Act.TheVariants.{Measure}
 use Rattle.inode_events.specs.policy.declared.rule.Func.{Func}
 use Rattle.inode_events.specs.policy.declared.rule.Func.TheVariants.{BprmCheck, FileCheck}
-use Rattle.run_laws.specs.model.History.{Thought}
+use Rattle.run_laws.specs.model.History.{Position}
 use Rattle.run_laws.specs.model.Rounds.{rounds}
 use Rattle.run_laws.specs.model.Scene.{Program, Scene, ScriptFile}
 use Rattle.run_laws.specs.model.Served.{Run, Served}
@@ -90,9 +90,9 @@ counted n file rules rest =
     ∷ did n 0 1 (deed.Check file FileCheck no_action rules) told.Quiet ∷ rest
 
 -- a task that has opened the file
-abbrev pub has_opened : ℕ → Thought
+abbrev pub has_opened : ℕ → Position
 has_opened file = record {
-  mind = record {
+  call_state = record {
     at = 1;
     progress = None;
     handles = record { name = Descriptor 0; inode = 0; file = file; how = how.Read false } ∷ [];
@@ -101,9 +101,9 @@ has_opened file = record {
 }
 
 -- a task whose only call is answered, and that holds no file
-abbrev pub has_finished : Thought
+abbrev pub has_finished : Position
 has_finished = record {
-  mind = record { at = 1; progress = None; handles = [] };
+  call_state = record { at = 1; progress = None; handles = [] };
   replies = reply.Done ∷ [];
 }
 
@@ -117,7 +117,7 @@ counting_run first second = record {
   journals = counting_journal first second ∷ [];
   list = boot ∷ [];
   added = record { who = who 2 0 0; rule = measure_at BprmCheck } ∷ [];
-  thoughts = has_opened 1 ∷ has_opened 3 ∷ has_finished ∷ [];
+  positions = has_opened 1 ∷ has_opened 3 ∷ has_finished ∷ [];
 }
 
 -- ---- turns

@@ -11,16 +11,16 @@ use Rattle.run_model.specs.EndedValue.{EndedValue}
 use Rattle.run_model.specs.Scene.{Scene}
 use Rattle.run_model.specs.Turns.{Moment, State}
 use Rattle.world_close.specs.worlds.WorldConsts.{WorldConsts, scene_of}
-use Rattle.world_close.specs.worlds.Runs.{AreTasks, moment_of, programs_of, thought_of}
+use Rattle.world_close.specs.worlds.Runs.{AreTasks, moment_of, position_of, programs_of}
 use Rattle.world_close.specs.worlds.Tasks.{Tasked}
 use Rattle.world_close.specs.worlds.World.{WorldInodeValue}
-use Rattle.world_close.specs.minds.Value.{TaskValue}
+use Rattle.world_close.specs.task_states.Value.{TaskValue}
 use Rattle.world_close.specs.Closed.{AreWorldInodes, WorldClosed}
 use Rattle.world_close.specs.Finished.{HaveMade, state_at}
 use Rattle.world_close.proofs.Finishing.{finished}
 use Rattle.world_close.proofs.Leaving.{closed_left}
 use Rattle.world_close.specs.Leaves.{left_by}
-use Rattle.world_close.specs.Settled.{HasEnded, HaveSameMinds, mind_of}
+use Rattle.world_close.specs.Settled.{HasEnded, HaveSameTaskStates, task_state_of}
 
 -- ---- tasks
 
@@ -50,23 +50,23 @@ closed_ended consts world_inodes list signals added tasks e are of count made cl
 
 -- the final state doesn't change if the tasks have only looked at the lists
 pub ended_same : (consts frame2 : WorldConsts) (state state2 : State) (old new : List Tasked)
-    (e : EndedValue) → frame2 ≡ consts → state2 ≡ state → HaveSameMinds old new
+    (e : EndedValue) → frame2 ≡ consts → state2 ≡ state → HaveSameTaskStates old new
     → HasEnded (scene_of frame2 (programs_of new)) (moment_of state2 new) e
     → HasEnded (scene_of consts (programs_of old)) (moment_of state old) e
 ended_same consts frame2 state state2 old new e consts_same states same =
     subst (λ (x : Scene × Moment). HasEnded x.0 x.1 e)
     (λ i. (
       scene_of (consts_same i) (programs i),
-      record { state = states i; thoughts = thoughts i },
+      record { state = states i; positions = positions i },
     )) where
       programs : programs_of new ≡ programs_of old
       programs =
-          sym (map-map (λ (m : TaskValue). m.program) mind_of new)
+          sym (map-map (λ (m : TaskValue). m.program) task_state_of new)
           ∙ ap (map (λ (m : TaskValue). m.program)) same
-          ∙ map-map (λ (m : TaskValue). m.program) mind_of old
+          ∙ map-map (λ (m : TaskValue). m.program) task_state_of old
 
-      thoughts : map thought_of new ≡ map thought_of old
-      thoughts =
-          sym (map-map (λ (m : TaskValue). m.thought) mind_of new)
-          ∙ ap (map (λ (m : TaskValue). m.thought)) same
-          ∙ map-map (λ (m : TaskValue). m.thought) mind_of old
+      positions : map position_of new ≡ map position_of old
+      positions =
+          sym (map-map (λ (m : TaskValue). m.position) task_state_of new)
+          ∙ ap (map (λ (m : TaskValue). m.position)) same
+          ∙ map-map (λ (m : TaskValue). m.position) task_state_of old

@@ -23,7 +23,7 @@ use Rattle.policy_cell.specs.declared.cell.RuleEntry.{RuleEntry}
 use Rattle.world_model.specs.laws_of_runs.Checks.{SeesMore, seen_of}
 use Rattle.world_model.specs.laws_of_runs.Moments.{seen_in}
 use Rattle.world_model.proofs.laws_of_runs.Checking.{law_fits_are_suited}
-use Rattle.world_model.specs.model.History.{Thought, own, own_rules, own_signals, thought}
+use Rattle.world_model.specs.model.History.{Position, own, own_rules, own_signals, position}
 use Rattle.world_model.specs.model.Scene.{Program, Scene, ScriptFile, inode_of, mode_of}
 use Rattle.world_model.specs.model.Served.{IsServed, RulesRise, Run, Served, events_of, rules_of}
 use Rattle.world_model.specs.model.Turns.{State, run_at}
@@ -32,7 +32,7 @@ use Rattle.world_model.specs.laws_of_progress.Rests.{AreFit}
 use Rattle.world_model.specs.laws_of_progress.ScriptFiles.{IsWithin}
 use Rattle.world_model.proofs.laws_of_progress.Rests.{rests}
 use Rattle.world_model.specs.WorldConsts.{WorldConsts, mode_in, scene_of, script_file_of}
-use Rattle.world_model.specs.Runs.{AreTasks, HasMade, moment_of, program_of, programs_of, thought_of}
+use Rattle.world_model.specs.Runs.{AreTasks, HasMade, moment_of, position_of, program_of, programs_of}
 use Rattle.world_model.specs.Tasks.{PassesValue, Tasked}
 use Rattle.world_model.specs.World.{WorldInodeValue, journal_of}
 use Rattle.world_close.specs.Closed.{AreWorldInodes, WorldClosed, WorldInodeClosed}
@@ -42,30 +42,30 @@ use Rattle.world_close.proofs.Scening.{IsAt, all_booked, all_legal, is_at, lists
 
 -- ---- a task
 
--- the task of this number, with its program and its thought
-record IsTaskAt (tasks : List Tasked) (n : ℕ) (p : Program) (t : Thought) : Type 0 where
+-- the task of this number, with its program and its position
+record IsTaskAt (tasks : List Tasked) (n : ℕ) (p : Program) (t : Position) : Type 0 where
   pub task : Tasked
   pub at : slice_get tasks n ≡ Some task
   pub program : program_of task ≡ p
-  pub stands : thought_of task ≡ t
+  pub stands : position_of task ≡ t
 
-task_at : (tasks : List Tasked) (n : ℕ) (p : Program) (t : Thought)
-    → slice_get (programs_of tasks) n ≡ Some p → slice_get (map thought_of tasks) n ≡ Some t
+task_at : (tasks : List Tasked) (n : ℕ) (p : Program) (t : Position)
+    → slice_get (programs_of tasks) n ≡ Some p → slice_get (map position_of tasks) n ≡ Some t
     → IsTaskAt tasks n p t
 task_at tasks n p t a b =
     let x = get_map program_of tasks n p a in
-    let y = get_map thought_of tasks n t b in
+    let y = get_map position_of tasks n t b in
     record {
       task = x.0;
       at = x.1.0;
       program = x.1.1;
-      stands = ap thought_of (same_Some x.0 y.0 (sym x.1.0 ∙ y.1.0)) ∙ y.1.1;
+      stands = ap position_of (same_Some x.0 y.0 (sym x.1.0 ∙ y.1.0)) ∙ y.1.1;
     }
 
 -- a run has seen all of its own lists
-sees_all : (s : State) (thoughts : List Thought)
-    → SeesMore (seen_in s) (seen_of (run_at (record { state = s; thoughts = thoughts })))
-sees_all s thoughts = record {
+sees_all : (s : State) (positions : List Position)
+    → SeesMore (seen_in s) (seen_of (run_at (record { state = s; positions = positions })))
+sees_all s positions = record {
   journals = λ i journal e. record {
     longer = journal;
     there = e;
@@ -75,7 +75,7 @@ sees_all s thoughts = record {
 }
 
 -- the task is served, and the places in its answers increase
-record IsServedRising (scene : Scene) (run : Run) (n : ℕ) (p : Program) (t : Thought)
+record IsServedRising (scene : Scene) (run : Run) (n : ℕ) (p : Program) (t : Position)
     : Type 0 where
   pub served : IsServed scene run n p t
   pub rise : Rises (log (mode_of scene) n p served.history)
@@ -84,14 +84,14 @@ record IsServedRising (scene : Scene) (run : Run) (n : ℕ) (p : Program) (t : T
 served_task : (consts : WorldConsts) (s : State) (tasks : List Tasked) (n : ℕ) (task : Tasked)
     → task.number ≡ n → HasMade consts s task
     → IsServedRising (scene_of consts (programs_of tasks)) (run_at (moment_of s tasks)) n
-    (program_of task) (thought_of task)
+    (program_of task) (position_of task)
 served_task consts s tasks n task number made = record {
   served = record {
     history = made.history;
     stands = made.stands;
     suited = law_fits_are_suited (scene_of consts (programs_of tasks)) (program_of task)
         (seen_in s) (run_at (moment_of s tasks)) made.history
-        (sees_all s (map thought_of tasks)) (made.checks (programs_of tasks));
+        (sees_all s (map position_of tasks)) (made.checks (programs_of tasks));
     events = λ i journal e. subst (λ (k : ℕ). events_of k journal
         ≡ own (mode_in consts) k (program_of task) i made.history) number
         (made.events i journal e);
@@ -104,12 +104,12 @@ served_task consts s tasks n task number made = record {
 
 -- the task of this number in the scene and the run is served
 served_at : (consts : WorldConsts) (s : State) (tasks : List Tasked) → AreTasks consts tasks
-    → HaveMade consts s tasks → (n : ℕ) (p : Program) (t : Thought) → IsTaskAt tasks n p t
+    → HaveMade consts s tasks → (n : ℕ) (p : Program) (t : Position) → IsTaskAt tasks n p t
     → IsServedRising (scene_of consts (programs_of tasks)) (run_at (moment_of s tasks)) n p t
 served_at consts s tasks are made n p t x =
     subst (λ (q : Program). IsServedRising (scene_of consts (programs_of tasks))
     (run_at (moment_of s tasks)) n q t) x.program
-    (subst (λ (u : Thought). IsServedRising (scene_of consts (programs_of tasks))
+    (subst (λ (u : Position). IsServedRising (scene_of consts (programs_of tasks))
     (run_at (moment_of s tasks)) n (program_of x.task) u) x.stands
     (served_task consts s tasks n x.task (are.each n x.task x.at).number (made n x.task x.at)))
 
@@ -234,7 +234,7 @@ abbrev served_run : (consts : WorldConsts) (world_inodes : List WorldInodeValue)
     (run_at (moment_of (state_at world_inodes list signals added) tasks))
 served_run consts world_inodes list signals added tasks are each count made closed = record {
   journals = lists_even consts (programs_of tasks) world_inodes are;
-  thoughts = length-map tasks thought_of ∙ sym (length-map tasks program_of);
+  positions = length-map tasks position_of ∙ sym (length-map tasks program_of);
   tasks = λ n p t a b. (served_at consts (state_at world_inodes list signals added) tasks each made
       n p t (task_at tasks n p t a b)).served;
   no_other_events = all_within consts world_inodes closed.inodes (length (programs_of tasks))
@@ -260,9 +260,9 @@ reached_moment consts world_inodes list signals added tasks are each count made 
       programs = length-map tasks program_of ∙ count
 
       legal : AreLegal (scene_of consts (programs_of tasks))
-          (state_at world_inodes list signals added) (map thought_of tasks)
+          (state_at world_inodes list signals added) (map position_of tasks)
       legal = record {
-        thoughts_even = length-map tasks thought_of ∙ sym (length-map tasks program_of);
+        positions_even = length-map tasks position_of ∙ sym (length-map tasks program_of);
         follows = λ i script_file journal a b.
             let l = legal_in consts (programs_of tasks) world_inodes closed.inodes are
             closed.closed i script_file journal a b in (
@@ -277,7 +277,7 @@ reached_moment consts world_inodes list signals added tasks are each count made 
             signals) (sym programs) closed.signed;
       }
 
-      rest : (n : ℕ) (p : Program) (t : Thought) → slice_get (programs_of tasks) n ≡ Some p
+      rest : (n : ℕ) (p : Program) (t : Position) → slice_get (programs_of tasks) n ≡ Some p
           → IsTaskAt tasks n p t
           → Resting (scene_of consts (programs_of tasks)) (state_at world_inodes list signals added)
           n p t
@@ -285,9 +285,9 @@ reached_moment consts world_inodes list signals added tasks are each count made 
           let h = made n x.task x.at in
           let number = (each.each n x.task x.at).number in
           rests (scene_of consts (programs_of tasks)) (state_at world_inodes list signals added)
-          (map thought_of tasks) n p t h.history (all_fit consts tasks each)
+          (map position_of tasks) n p t h.history (all_fit consts tasks each)
           (lists_even consts (programs_of tasks) world_inodes are) legal a
-          (ap (λ (q : Program). thought (mode_in consts) q h.history) (sym x.program)
+          (ap (λ (q : Program). position (mode_in consts) q h.history) (sym x.program)
           ∙ h.stands ∙ x.stands)
           (λ i journal e. subst (λ (y : ℕ × Program). events_of y.0 journal
           ≡ own (mode_in consts) y.0 y.1 i h.history) (λ k. (number k, x.program k))

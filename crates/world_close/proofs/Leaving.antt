@@ -13,7 +13,7 @@ use Rattle.run_model.specs.Ended.{all_done, all_wait, left}
 use Rattle.run_model.specs.EndedValue.{EndedTaskValue, appends, inodes_ended, tasks_ended}
 use Rattle.run_model.specs.Scene.{Program, Scene, ScriptFile, inode_of}
 use Rattle.world_close.specs.worlds.WorldConsts.{scene_of, script_file_of}
-use Rattle.world_close.specs.worlds.Runs.{moment_of, program_of, programs_of, thought_of}
+use Rattle.world_close.specs.worlds.Runs.{moment_of, position_of, program_of, programs_of}
 use Rattle.world_close.specs.worlds.Tasks.{Tasked}
 use Rattle.world_close.specs.worlds.World.{WorldInodeValue, journal_of}
 use Rattle.world_close.specs.Closed.{ended_world_inode}
@@ -42,20 +42,20 @@ inodes_are scene (x ∷ script_files) (s ∷ world_inodes) even each =
 -- ---- the tasks
 
 tasks_are : (tasks : List Tasked)
-    → map task_left tasks ≡ tasks_ended (map program_of tasks) (map thought_of tasks)
+    → map task_left tasks ≡ tasks_ended (map program_of tasks) (map position_of tasks)
 tasks_are [] = refl
 tasks_are (t ∷ tasks) = ap (λ (l : List EndedTaskValue). task_left t ∷ l) (tasks_are tasks)
 
 -- `done_by` of all tasks is `all_done` of the run
 dones : (tasks : List Tasked)
-    → list_all done_by tasks ≡ all_done (map program_of tasks) (map thought_of tasks)
+    → list_all done_by tasks ≡ all_done (map program_of tasks) (map position_of tasks)
 dones [] = refl
 dones (t ∷ tasks) = ap (λ (b : Bool). done_by t && b) (dones tasks)
 
 -- no task can go on in the world exactly if none can in the run
 waits : (left_of : ℕ → ℕ) (tasks : List Tasked)
     → list_all (rests left_of) tasks
-    ≡ all_wait left_of (map program_of tasks) (map thought_of tasks)
+    ≡ all_wait left_of (map program_of tasks) (map position_of tasks)
 waits left_of [] = refl
 waits left_of (t ∷ tasks) = ap (λ (b : Bool). rests left_of t && b) (waits left_of tasks)
 
@@ -94,7 +94,7 @@ closed_left consts world_inodes list signals added tasks are finished = λ i. re
 
   -- the posts that are left of each semaphore are the same by the journal as by the replies
   left_is : (sem : ℕ) → count_left sem (newest_first signals)
-      ≡ left sem (map program_of tasks) (map thought_of tasks)
+      ≡ left sem (map program_of tasks) (map position_of tasks)
   left_is sem =
       let both = counted_when_reached (scene_of consts (programs_of tasks))
       (moment_of (state_at world_inodes list signals added) tasks) finished.reached sem in
@@ -102,9 +102,9 @@ closed_left consts world_inodes list signals added tasks are finished = λ i. re
       omega (arith, both.0, both.1, same.0, same.1)
 
   wait : list_all (rests (λ sem. count_left sem (newest_first signals))) tasks
-      ≡ all_wait (λ sem. left sem (map program_of tasks) (map thought_of tasks))
-      (map program_of tasks) (map thought_of tasks)
+      ≡ all_wait (λ sem. left sem (map program_of tasks) (map position_of tasks))
+      (map program_of tasks) (map position_of tasks)
   wait =
       waits (λ sem. count_left sem (newest_first signals)) tasks
-      ∙ ap (λ (l : ℕ → ℕ). all_wait l (map program_of tasks) (map thought_of tasks))
+      ∙ ap (λ (l : ℕ → ℕ). all_wait l (map program_of tasks) (map position_of tasks))
       (λ i sem. left_is sem i)

@@ -8,7 +8,7 @@ use Rattle.world_close.specs.worlds.Runs.{AreTasks, HasMade, IsNth}
 use Rattle.world_close.specs.worlds.Tasks.{IsTask, Tasked}
 use Rattle.world_close.proofs.Gets.{get_set}
 use Rattle.world_close.specs.Finished.{HaveMade}
-use Rattle.world_close.specs.Settled.{HaveLooked, mind_of}
+use Rattle.world_close.specs.Settled.{HaveLooked, task_state_of}
 
 -- writing an element with the same image leaves the map of a list as it was
 map_kept : {A B : Type 0} (f : A → B) (xs : List A) (k : ℕ) (x y : A) → slice_get xs k ≡ Some x
@@ -31,12 +31,12 @@ looked_none consts state tasks are = record {
 -- one more task has looked
 pub looked_more : (consts : WorldConsts) (state : State) (k : ℕ) (old new : List Tasked)
     (t t2 : Tasked) → slice_get new k ≡ Some t → HasMade consts state t2 → IsTask consts t2
-    → t2.number ≡ t.number → t2.mind ≡ t.mind → HaveLooked consts state k old new
+    → t2.number ≡ t.number → t2.task_state ≡ t.task_state → HaveLooked consts state k old new
     → HaveLooked consts state (k + 1) old (slice_set new k t2)
-looked_more consts state k old new t t2 at has task number mind l = record {
+looked_more consts state k old new t t2 at has task number task_state l = record {
   made = λ j u below there. made j u below (get_set new k j t2 u there);
   tasks = record { each = λ j u there. each j u (get_set new k j t2 u there) };
-  same = map_kept mind_of new k t t2 at mind ∙ l.same;
+  same = map_kept task_state_of new k t t2 at task_state ∙ l.same;
 } where
   made : (j : ℕ) (u : Tasked) → j < k + 1
       → ((k ≡ j) × (t2 ≡ u)) ⊎ ((k ≡ j → ⊥) × (slice_get new j ≡ Some u))

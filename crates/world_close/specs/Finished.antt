@@ -58,11 +58,11 @@ ClosedIsFinished =
 abbrev pub FinishedEnds : Type 0
 FinishedEnds = (scene : Scene) (m : Moment) → IsFinished scene m
     → ((n : ℕ) → n < length scene.programs → moves scene m n ≡ false)
-    → (all_done scene.programs m.thoughts || is_stuck scene.programs m.thoughts) ≡ true
+    → (all_done scene.programs m.positions || is_stuck scene.programs m.positions) ≡ true
 
 -- a finished run that has gone on as long as its ending asks may be shown
 abbrev pub FinishedIsShown : Type 0
 FinishedIsShown = (scene : Scene) (m : Moment) (ending : Ending) → IsFinished scene m
     → IsThrough ending
-    (all_done scene.programs m.thoughts || is_stuck scene.programs m.thoughts)
+    (all_done scene.programs m.positions || is_stuck scene.programs m.positions)
     → IsShown scene ending (run_at m)

@@ -21,20 +21,20 @@ use Rattle.world_close.specs.Finished.{IsFinished, state_at}
 
 -- each of the task's calls is answered
 abbrev pub done_by : Tasked → Bool
-done_by t = is_done t.mind.program t.mind.thought
+done_by t = is_done t.task_state.program t.task_state.position
 
 abbrev pub task_left : Tasked → EndedTaskValue
-task_left t = record { done = done_by t; replies = t.mind.thought.replies }
+task_left t = record { done = done_by t; replies = t.task_state.position.replies }
 
 -- the task is done, or its next call waits for a semaphore with no post left
 abbrev pub rests : (ℕ → ℕ) → Tasked → Bool
 rests left_of t =
     done_by t || waits_in_vain left_of
-    (slice_get t.mind.program.calls (length t.mind.thought.replies))
+    (slice_get t.task_state.program.calls (length t.task_state.position.replies))
 
 -- the task's program can append a rule
 abbrev pub may_append : Tasked → Bool
-may_append t = list_any appends t.mind.program.calls
+may_append t = list_any appends t.task_state.program.calls
 
 -- ---- all tasks
 

@@ -5,7 +5,7 @@ ghost use Rattle.std.specs.Prelude.{◌≡◌, ◌<◌, length};
 ghost use Rattle.inode_events.specs.Checks.{no_action};
 ghost use Rattle.world_close.specs.worlds.Tasks.{ArePassesOf};
 ghost use Rattle.world_close.specs.worlds.declared.hash_state.HashState.{HashState as AnyHashState};
-ghost use Rattle.task_mind.specs.Steps.{deed_in};
+ghost use Rattle.task_state.specs.Steps.{deed_in};
 ghost use Rattle.task_steps.specs.Acting.{ReadyAt};
 ghost use Rattle.task_steps.specs.Hashed.{IsAloneDeed, IsListedDeed};
 ghost use Rattle.world_locks.specs.Met.{CheckMet, EventMet};
@@ -17,7 +17,7 @@ use crate::order::Order;
 use inode_cell::answers::piece_told;
 use std::alloc::AllocError as OutOfMemory;
 use std::sync::Wait;
-use task_mind::Doing;
+use task_state::DueDeed;
 use task_steps::{Actor, Checks, StepResult, gather};
 use world_close::worlds::{HashState, Passes};
 
@@ -30,7 +30,7 @@ impl<N: Name> Locks<N> {
         i: u32,
         passes: &mut Passes,
         actor: &Actor<'_>,
-        doing: Doing<'_>,
+        doing: DueDeed<'_>,
         hash_state: &mut HashState,
     ) -> Result<Option<StepResult>, OutOfMemory>
         requires passes { ArePassesOf N.consts actor.now.who.task passes.old }
@@ -43,10 +43,10 @@ impl<N: Name> Locks<N> {
             return Ok(None);
         }
         match doing {
-            Doing::Take(_) => self.apply_with_list(rt, i, passes, actor, doing, hash_state),
-            Doing::Finish(_) => { self.apply_with_list(rt, i, passes, actor, doing, hash_state) }
-            Doing::Chunk(_) => self.apply_page(rt, i, passes, actor, doing, hash_state),
-            Doing::CloseChunk(_) => { self.apply_page(rt, i, passes, actor, doing, hash_state) }
+            DueDeed::Take(_) => self.apply_with_list(rt, i, passes, actor, doing, hash_state),
+            DueDeed::Finish(_) => { self.apply_with_list(rt, i, passes, actor, doing, hash_state) }
+            DueDeed::Chunk(_) => self.apply_page(rt, i, passes, actor, doing, hash_state),
+            DueDeed::CloseChunk(_) => { self.apply_page(rt, i, passes, actor, doing, hash_state) }
             _ => self.apply_without_list(rt, i, passes, actor, doing, hash_state),
         }
     }
@@ -58,7 +58,7 @@ impl<N: Name> Locks<N> {
         i: u32,
         passes: &mut Passes,
         actor: &Actor<'_>,
-        doing: Doing<'_>,
+        doing: DueDeed<'_>,
         hash_state: &mut HashState,
     ) -> Result<Option<StepResult>, OutOfMemory>
         requires below { i < length N.consts.each_inode }
@@ -89,7 +89,7 @@ impl<N: Name> Locks<N> {
         i: u32,
         passes: &mut Passes,
         actor: &Actor<'_>,
-        doing: Doing<'_>,
+        doing: DueDeed<'_>,
         hash_state: &mut HashState,
     ) -> Result<Option<StepResult>, OutOfMemory>
         requires below { i < length N.consts.each_inode }
@@ -112,7 +112,7 @@ impl<N: Name> Locks<N> {
         i: u32,
         passes: &mut Passes,
         actor: &Actor<'_>,
-        doing: Doing<'_>,
+        doing: DueDeed<'_>,
         hash_state: &mut HashState,
     ) -> Result<Option<StepResult>, OutOfMemory>
         requires below { i < length N.consts.each_inode }

@@ -13,7 +13,7 @@ ghost use Rattle.inode_events.specs.State.{content};
 ghost use Rattle.inode_events.specs.pages.Content.{piece_at};
 ghost use Rattle.task_steps.specs.Leaving.{Leaves, told_by};
 ghost use Rattle.task_steps.specs.worlds.Ready.{HasLooked};
-ghost use Rattle.task_mind.specs.Steps.{deed_in};
+ghost use Rattle.task_state.specs.Steps.{deed_in};
 ghost use Rattle.world_locks.specs.Pages.{IsPageDeed, taken_in};
 
 use grow_list::Pass;
@@ -22,7 +22,7 @@ use inode_events::Event;
 use inode_meta::Who;
 use inode_pages::Page;
 use std::alloc::AllocError as OutOfMemory;
-use task_mind::Doing;
+use task_state::DueDeed;
 
 /// A page that a collection took.
 #[derive(Drop)]
@@ -53,7 +53,7 @@ fn next_page(
     cell: &mut InodeCell,
     pass: &mut Pass<Event>,
     who: Who,
-    doing: Doing<'_>,
+    doing: DueDeed<'_>,
 ) -> Result<(Piece, Page), OutOfMemory>
     requires name { pass.old.name ≡ cell.old.journal }
     requires number { pass.old.number ≡ who.task + 1 }
@@ -67,8 +67,8 @@ fn next_page(
     ensures err { OnErr result (Stays cell.old cell.new pass.old pass.new) }
 {
     match doing {
-        Doing::Chunk(file) => cell.chunk(pass, who, file),
-        Doing::CloseChunk(file) => cell.close_chunk(pass, who, file),
+        DueDeed::Chunk(file) => cell.chunk(pass, who, file),
+        DueDeed::CloseChunk(file) => cell.close_chunk(pass, who, file),
         _ => unreachable!(),
     }
 }
@@ -78,7 +78,7 @@ pub(crate) fn take_page(
     cell: &mut InodeCell,
     pass: &mut Pass<Event>,
     who: Who,
-    doing: Doing<'_>,
+    doing: DueDeed<'_>,
 ) -> Result<(Piece, Page), OutOfMemory>
     requires name { pass.old.name ≡ cell.old.journal }
     requires number { pass.old.number ≡ who.task + 1 }

@@ -7,7 +7,7 @@ ghost use Rattle.ima_templates.specs.declared.entry.Entry.{Entry as AnyEntry};
 ghost use Rattle.inode_events.specs.Checks.{no_action};
 ghost use Rattle.world_close.specs.worlds.World.{IsWorldInode};
 ghost use Rattle.world_close.specs.worlds.declared.hash_state.HashState.{HashState as AnyHashState};
-ghost use Rattle.task_mind.specs.Steps.{deed_in};
+ghost use Rattle.task_state.specs.Steps.{deed_in};
 ghost use Rattle.task_steps.specs.Hashed.{IsAloneDeed, IsListedDeed};
 ghost use Rattle.world_locks.specs.Tagged.{AskMet, DeedMet, IsPassAt, IsReadyBy};
 ghost use Rattle.world_locks.specs.Pages.{IsPageDeed, MayByLook, PageMet};
@@ -23,7 +23,7 @@ use policy_cell::RuleEntry;
 use policy_rules::Super;
 use std::alloc::AllocError as OutOfMemory;
 use std::marker::{Model, PhantomData};
-use task_mind::Doing;
+use task_state::DueDeed;
 use task_steps::{Actor, Checks, StepResult, apply_alone_at, apply_at, check_at};
 use world_close::worlds::{HashState, WorldInode};
 
@@ -86,7 +86,7 @@ impl<N: Name> TaggedWorldInode<N> {
         book: &mut TaggedBook<N>,
         listed: &mut Pass<Entry>,
         actor: &Actor<'_>,
-        doing: Doing<'_>,
+        doing: DueDeed<'_>,
         hash_state: &mut HashState,
     ) -> Result<Option<StepResult>, OutOfMemory>
         requires pass { IsPassAt N.consts self.old.number actor.now.who.task pass.old }
@@ -116,7 +116,7 @@ impl<N: Name> TaggedWorldInode<N> {
         &mut self,
         pass: &mut Pass<Event>,
         actor: &Actor<'_>,
-        doing: Doing<'_>,
+        doing: DueDeed<'_>,
         hash_state: &mut HashState,
     ) -> Result<Option<StepResult>, OutOfMemory>
         requires pass { IsPassAt N.consts self.old.number actor.now.who.task pass.old }
@@ -136,7 +136,7 @@ impl<N: Name> TaggedWorldInode<N> {
         &mut self,
         pass: &mut Pass<Event>,
         who: Who,
-        doing: Doing<'_>,
+        doing: DueDeed<'_>,
     ) -> Result<TakenPage, OutOfMemory>
         requires pass { IsPassAt N.consts self.old.number who.task pass.old }
         requires may { MayByLook N.consts self.old.number who.task pass.old (deed_in doing) }

@@ -11,8 +11,8 @@ use Rattle.call_steps.specs.templates.declared.entry.Entry.{Entry}
 use Rattle.inode_events.specs.declared.deed.Deed.{Deed}
 use Rattle.inode_events.specs.declared.told.Event.{Event}
 use Rattle.call_steps.specs.declared.call.Call.{Call}
-use Rattle.call_steps.specs.Mind.{Mind, Step}
-use Rattle.call_steps.specs.Mind.{Nothing, Does, Checks, Signals, Appends}
+use Rattle.call_steps.specs.CallState.{CallState, Step}
+use Rattle.call_steps.specs.CallState.{Nothing, Does, Checks, Signals, Appends}
 use Rattle.world_model.specs.laws_of_runs.Logs.{log}
 use Rattle.world_model.proofs.laws_of_runs.Rising.{rises_look}
 use Rattle.world_model.proofs.laws_of_runs.Checking.{law_fits_with_more}
@@ -31,14 +31,14 @@ use Rattle.world_model.specs.Ready.{HasLooked, IsReady, IsStepOn}
 use Rattle.world_model.proofs.Eventing.{get_set}
 use Rattle.world_model.proofs.Readying.{ready_by_look}
 use Rattle.world_model.specs.Due.{slot_in}
-use Rattle.world_model.specs.minds.Value.{due_at}
+use Rattle.world_model.specs.task_states.Value.{due_at}
 
 -- the `Who` of a step has the number of its task
-task_in : (n : ℕ) (p : Program) (m : Mind) (o : Option Call) → (who_in n p o m).task ≡ n
+task_in : (n : ℕ) (p : Program) (m : CallState) (o : Option Call) → (who_in n p o m).task ≡ n
 task_in n p m None = refl
 task_in n p m (Some c) = refl
 
-pub task_of_who : (n : ℕ) (p : Program) (m : Mind) → (who_at n p m).task ≡ n
+pub task_of_who : (n : ℕ) (p : Program) (m : CallState) → (who_at n p m).task ≡ n
 task_of_who n p m = task_in n p m (call_at p m)
 
 -- the pass of a journal before it was brought up to date
@@ -53,8 +53,8 @@ record Looked (j : ℕ) (old : List (Passed Event)) (q : Passed Event) : Type 0 
 module _ (consts : WorldConsts) (t : Tasked) (h : List Answer) (i : ℕ) (s : InodeConsts) (d : Deed)
     (old new : State) (passes : PassesValue) (g : HashState) (x : HasPlayed consts t h)
     (there : slice_get consts.each_inode i ≡ Some s)
-    (e : EventOn consts i s (who_at t.number t.mind.program t.mind.thought.mind) d old new
-    t.passes passes t.hash_state g None) where
+    (e : EventOn consts i s (who_at t.number t.task_state.program t.task_state.position.call_state)
+    d old new t.passes passes t.hash_state g None) where
   within : i < length t.passes.inodes
   within = slice_get_within t.passes.inodes i e.pass e.pass_at
 
@@ -126,17 +126,18 @@ module _ (consts : WorldConsts) (t : Tasked) (h : List Answer) (i : ℕ) (s : In
   }
 
   -- what was hashed before the step suits it again, since it will be tried again
-  hashes_left : (o : Option Step) → step_at t.mind.program t.mind.thought.mind ≡ o
+  hashes_left : (o : Option Step)
+      → step_at t.task_state.program t.task_state.position.call_state ≡ o
       → IsStepFor i d o → HashesFor consts passes.inodes g o
   hashes_left (Some (Does j y)) st f = λ s2 q a b.
-      let p = t.mind.program in
-      let on : IsStepOn i d (step_at p t.mind.thought.mind) =
+      let p = t.task_state.program in
+      let on : IsStepOn i d (step_at p t.task_state.position.call_state) =
       subst (IsStepOn i d) (sym st) f in
       let looked : HasLooked (inode_in consts s) (t.number + 1) e.pass.seen e.journal e.pass.mine =
       subst (λ (n : ℕ). HasLooked (inode_in consts s) (n + 1) e.pass.seen e.journal e.pass.mine)
-      (task_of_who t.number p t.mind.thought.mind) e.looked in
-      let ready : IsReady (inode_in consts s) (t.number + 1) e.journal t.hash_state t.mind.checked
-      (slot_in (due_at p t.mind.thought.mind)) d =
+      (task_of_who t.number p t.task_state.position.call_state) e.looked in
+      let ready : IsReady (inode_in consts s) (t.number + 1) e.journal t.hash_state
+      t.task_state.checked (slot_in (due_at p t.task_state.position.call_state)) d =
       ready_by_look consts t h i s e.pass e.journal d x there e.pass_at looked on in
       let same : s ≡ s2 =
       same_Some s s2 (sym there ∙ ap (slice_get consts.each_inode) (sym f.0) ∙ a) in
@@ -169,11 +170,11 @@ none_is_played consts t h i s d old new passes g x f there e =
       signals = ap (λ (q : Passed Event). q.mine) e.sems ∙ x.signals;
       rules = e.rules.mine ∙ append-nil t.passes.rules.mine ∙ x.rules;
       unlisted = e.book.mine ∙ append-nil t.passes.book.mine ∙ x.unlisted;
-      checks = λ programs. law_fits_with_more (scene_of consts programs) t.mind.program
+      checks = λ programs. law_fits_with_more (scene_of consts programs) t.task_state.program
           (seen_by t.passes.inodes t.passes.rules) (seen_by passes.inodes passes.rules) h
           (sees_more consts t h i s d old new passes g x there e) (x.checks programs);
-      rises = rises_look (log (mode_in consts) t.number t.mind.program h) t.passes.book.seen
+      rises = rises_look (log (mode_in consts) t.number t.task_state.program h) t.passes.book.seen
           passes.book.seen (book_more consts t h i s d old new passes g x there e) x.rises;
       hashed = hashes_left consts t h i s d old new passes g x there e
-          (step_at t.mind.program t.mind.thought.mind) refl f;
+          (step_at t.task_state.program t.task_state.position.call_state) refl f;
     }

@@ -17,8 +17,8 @@ use Rattle.inode_events.specs.declared.deed.Deed.{Deed}
 use Rattle.inode_events.specs.declared.deed.Deed.TheVariants as deed
 use Rattle.inode_events.specs.declared.told.Event.{Event}
 use Rattle.inode_events.specs.declared.told.Told.{Told}
-use Rattle.call_steps.specs.Mind.{Step}
-use Rattle.call_steps.specs.Mind.{Does, Checks}
+use Rattle.call_steps.specs.CallState.{Step}
+use Rattle.call_steps.specs.CallState.{Does, Checks}
 use Rattle.world_model.specs.laws_of_runs.Logs.{logged}
 use Rattle.world_model.specs.laws_of_runs.Steps.{Made, RisesWithin, made_of}
 use Rattle.world_model.proofs.laws_of_runs.Rising.{rises_event}
@@ -29,7 +29,7 @@ use Rattle.world_model.proofs.laws_of_runs.Checking.{law_fits_by_check, law_fits
 use Rattle.world_model.proofs.laws_of_runs.Owned.{set_parts}
 use Rattle.world_model.proofs.laws_of_runs.Passing.{law_sees_by_look, law_stands_by_look}
 use Rattle.world_model.specs.laws_of_runs.Checks.{IsPlainStep, Longer, SeesMore, seen_by}
-use Rattle.run_model.specs.History.{Answer, Thought, event, event_in, plain_answer, rule_in, signal_in, step_at, who_at}
+use Rattle.run_model.specs.History.{Answer, Position, event, event_in, plain_answer, rule_in, signal_in, step_at, who_at}
 use Rattle.run_model.specs.Scene.{Program, decided, rules_with}
 use Rattle.run_model.specs.Turns.{State}
 use Rattle.world_model.specs.WorldConsts.{InodeConsts, WorldConsts, inode_in, mode_in, scene_of, script_file_of, super_at}
@@ -37,11 +37,11 @@ use Rattle.world_model.specs.Tasks.{HashesFor, PassesValue, Tasked}
 use Rattle.world_model.specs.declared.hash_state.HashState.{HashState}
 use Rattle.world_model.specs.Due.{HashesAfter, HashesAfterStep}
 use Rattle.world_model.specs.Events.{EventOn}
-use Rattle.world_model.specs.Plays.{CheckIsPlayed, EventIsPlayed, HasHeard, check_answer, task_after}
+use Rattle.world_model.specs.Plays.{CheckIsPlayed, EventIsPlayed, HasResumed, check_answer, task_after}
 use Rattle.world_model.specs.Steps.{Adds, HasStepped, InodeStepped}
-use Rattle.world_model.proofs.Next.{hashes_heard}
+use Rattle.world_model.proofs.Next.{hashes_resumed}
 use Rattle.world_model.proofs.Playing.{step_is_played}
-use Rattle.world_model.specs.minds.Value.{TaskValue}
+use Rattle.world_model.specs.task_states.Value.{TaskValue}
 
 -- ---- lists
 
@@ -189,23 +189,24 @@ get_map f (y ∷ ys) (suc k) x h = get_map f ys k x h
 -- ---- an event with the outcome told to the task
 
 event_stepped : (consts : WorldConsts) (t : Tasked) (i : ℕ) (s : InodeConsts) (d : Deed)
-    (told : Told) (old new : State) (passes : PassesValue) (g : HashState) (mind : TaskValue)
-    → step_at t.mind.program t.mind.thought.mind ≡ Some (Does i d)
+    (told : Told) (old new : State) (passes : PassesValue) (g : HashState) (task_state : TaskValue)
+    → step_at t.task_state.program t.task_state.position.call_state ≡ Some (Does i d)
     → slice_get consts.each_inode i ≡ Some s
-    → (e : EventOn consts i s (who_at t.number t.mind.program t.mind.thought.mind) d old new
+    → (e : EventOn consts i s
+    (who_at t.number t.task_state.program t.task_state.position.call_state) d old new
     t.passes passes t.hash_state g (Some told))
     → Some told ≡ outcome (inode_in consts s) old.list d (newest_first e.journal)
-    → HasHeard consts t (plain_answer (length e.journal) told) mind
-    → HasStepped consts t (task_after t mind passes g) (plain_answer (length e.journal) told)
-event_stepped consts t i s d told old new passes g mind st there e tells hd =
-    let p = t.mind.program in
-    let m = t.mind.thought.mind in
+    → HasResumed consts t (plain_answer (length e.journal) told) task_state
+    → HasStepped consts t (task_after t task_state passes g) (plain_answer (length e.journal) told)
+event_stepped consts t i s d told old new passes g task_state st there e tells hd =
+    let p = t.task_state.program in
+    let m = t.task_state.position.call_state in
     let who = who_at t.number p m in
     let a = plain_answer (length e.journal) told in
     record {
       number = refl;
       program = hd.program;
-      stands = hd.thought;
+      stands = hd.position;
       checked = hd.checked;
       even = even_on consts i s who d old new t.passes passes t.hash_state g told e;
       inodes = inodes_on consts i s who d old new t.passes passes t.hash_state g told e
@@ -229,46 +230,49 @@ event_stepped consts t i s d told old new passes g mind st there e tells hd =
       rises = λ steps r. subst (λ (o : Option Step). RisesWithin (logged who o a ++ steps)
           passes.book.seen) (sym st)
           (rises_on consts i s who d old new t.passes passes t.hash_state g told e tells steps r);
-      hashed = subst (λ (z : Thought). HashesFor consts passes.inodes g (step_at p z.mind))
-          (sym hd.thought)
-          (hashes_heard consts passes.inodes g p (mode_in consts) t.mind.thought a (Does i d) st
+      hashed = subst (λ (z : Position). HashesFor consts passes.inodes g (step_at p z.call_state))
+          (sym hd.position)
+          (hashes_resumed consts passes.inodes g p (mode_in consts) t.task_state.position a
+          (Does i d) st
           (hashes_on consts i s who d old new t.passes passes t.hash_state g told e there));
     }
 
 pub event_is_played : EventIsPlayed
-event_is_played consts t h i s d told old new passes g mind x st there e tells hd =
-    step_is_played consts t (task_after t mind passes g) h (plain_answer (length e.journal) told) x
-    (event_stepped consts t i s d told old new passes g mind st there e tells hd)
+event_is_played consts t h i s d told old new passes g task_state x st there e tells hd =
+    step_is_played consts t (task_after t task_state passes g) h
+    (plain_answer (length e.journal) told) x
+    (event_stepped consts t i s d told old new passes g task_state st there e tells hd)
 
 -- ---- a check
 
 check_stepped : (consts : WorldConsts) (t : Tasked) (i : ℕ) (s : InodeConsts) (file : ℕ)
     (func : Func) (mask : ℕ) (action : Action) (rules : ℕ) (told : Told) (old new : State)
-    (passes : PassesValue) (g : HashState) (mind : TaskValue)
-    → step_at t.mind.program t.mind.thought.mind ≡ Some (Checks i file func mask)
+    (passes : PassesValue) (g : HashState) (task_state : TaskValue)
+    → step_at t.task_state.program t.task_state.position.call_state ≡ Some (Checks i file func mask)
     → slice_get consts.each_inode i ≡ Some s
-    → (e : EventOn consts i s (who_at t.number t.mind.program t.mind.thought.mind)
+    → (e : EventOn consts i s
+    (who_at t.number t.task_state.program t.task_state.position.call_state)
     (deed.Check file func action rules) old new t.passes passes t.hash_state g (Some told))
     → Some told ≡ outcome (inode_in consts s) old.list (deed.Check file func action rules)
     (newest_first e.journal)
     → passes.rules.seen ≡ old.added
     → rules ≡ length (rules_with (scene_of consts []) old.added)
-    → action ≡ decided (rules_with (scene_of consts []) old.added) t.mind.program.cred
+    → action ≡ decided (rules_with (scene_of consts []) old.added) t.task_state.program.cred
     (super_at consts s.place) (metadata (newest_first e.journal)) func mask
-    → HasHeard consts t (check_answer (length e.journal) told action rules) mind
-    → HasStepped consts t (task_after t mind passes g)
+    → HasResumed consts t (check_answer (length e.journal) told action rules) task_state
+    → HasStepped consts t (task_after t task_state passes g)
     (check_answer (length e.journal) told action rules)
-check_stepped consts t i s file func mask action rules told old new passes g mind st there e tells
-    added count is hd =
-    let p = t.mind.program in
-    let m = t.mind.thought.mind in
+check_stepped consts t i s file func mask action rules told old new passes g task_state st there
+    e tells added count is hd =
+    let p = t.task_state.program in
+    let m = t.task_state.position.call_state in
     let who = who_at t.number p m in
     let d = deed.Check file func action rules in
     let a = check_answer (length e.journal) told action rules in
     record {
       number = refl;
       program = hd.program;
-      stands = hd.thought;
+      stands = hd.position;
       checked = hd.checked;
       even = even_on consts i s who d old new t.passes passes t.hash_state g told e;
       inodes = inodes_on consts i s who d old new t.passes passes t.hash_state g told e
@@ -298,16 +302,16 @@ check_stepped consts t i s file func mask action rules told old new passes g min
       rises = λ steps r. subst (λ (o : Option Step). RisesWithin (logged who o a ++ steps)
           passes.book.seen) (sym st)
           (rises_on consts i s who d old new t.passes passes t.hash_state g told e tells steps r);
-      hashed = subst (λ (z : Thought). HashesFor consts passes.inodes g (step_at p z.mind))
-          (sym hd.thought)
-          (hashes_heard consts passes.inodes g p (mode_in consts) t.mind.thought a
+      hashed = subst (λ (z : Position). HashesFor consts passes.inodes g (step_at p z.call_state))
+          (sym hd.position)
+          (hashes_resumed consts passes.inodes g p (mode_in consts) t.task_state.position a
           (Checks i file func mask) st tt);
     }
 
 pub check_is_played : CheckIsPlayed
-check_is_played consts t h i s file func mask action rules told old new passes g mind x st there e
-    tells added count is hd =
-    step_is_played consts t (task_after t mind passes g) h
+check_is_played consts t h i s file func mask action rules told old new passes g task_state x st
+    there e tells added count is hd =
+    step_is_played consts t (task_after t task_state passes g) h
     (check_answer (length e.journal) told action rules) x
-    (check_stepped consts t i s file func mask action rules told old new passes g mind st there e
-    tells added count is hd)
+    (check_stepped consts t i s file func mask action rules told old new passes g task_state st
+    there e tells added count is hd)

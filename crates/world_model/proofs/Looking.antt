@@ -9,8 +9,8 @@ use Rattle.grow_list.proofs.Prefixes.{prefix_length, prefix_same}
 use Rattle.grow_list.specs.Shown.{Passed}
 use Rattle.call_steps.specs.templates.declared.entry.Entry.{Entry}
 use Rattle.inode_events.specs.declared.told.Event.{Event}
-use Rattle.call_steps.specs.Mind.{Step}
-use Rattle.call_steps.specs.Mind.{Nothing, Does, Checks, Signals, Appends}
+use Rattle.call_steps.specs.CallState.{Step}
+use Rattle.call_steps.specs.CallState.{Nothing, Does, Checks, Signals, Appends}
 use Rattle.world_model.specs.laws_of_runs.Logs.{log}
 use Rattle.world_model.specs.laws_of_runs.Steps.{RisesWithin}
 use Rattle.world_model.proofs.laws_of_runs.Rising.{rises_look}
@@ -28,7 +28,7 @@ use Rattle.world_model.specs.Plays.{task_left}
 use Rattle.world_model.specs.Ready.{IsReady, IsStepOn}
 use Rattle.world_model.specs.Due.{slot_in}
 use Rattle.world_model.proofs.Readying.{ready_by_look}
-use Rattle.world_model.specs.minds.Value.{due_at}
+use Rattle.world_model.specs.task_states.Value.{due_at}
 
 -- a list has an element at each place below its length
 pub get_within : {A : Type 0} (xs : List A) (k : ℕ) → k < length xs
@@ -105,7 +105,7 @@ module _ (consts : WorldConsts) (t : Tasked) (h : List Answer) (s : State) (pass
   }
 
   events_left : (k : ℕ) (q : Passed Event) → slice_get passes.inodes k ≡ Some q
-      → q.mine ≡ own (mode_in consts) t.number t.mind.program k h
+      → q.mine ≡ own (mode_in consts) t.number t.task_state.program k h
   events_left k q g =
       let e : Looked k q = l.inodes k q g in e.mine ∙ x.events k e.before e.at
 
@@ -120,15 +120,16 @@ module _ (consts : WorldConsts) (t : Tasked) (h : List Answer) (s : State) (pass
       (λ (z : ℕ × Event). z.0 < length q.seen) (λ z y. omega arith) e.before.mine
       (x.placed k e.before e.at))
 
-  hashes_left : (o : Option Step) → step_at t.mind.program t.mind.thought.mind ≡ o
+  hashes_left : (o : Option Step)
+      → step_at t.task_state.program t.task_state.position.call_state ≡ o
       → HashesFor consts passes.inodes t.hash_state o
   hashes_left (Some (Does i d)) st = λ s2 q a b.
-      let p = t.mind.program in
+      let p = t.task_state.program in
       let e : Looked i q = l.inodes i q b in
-      let on : IsStepOn i d (step_at p t.mind.thought.mind) =
+      let on : IsStepOn i d (step_at p t.task_state.position.call_state) =
       subst (IsStepOn i d) (sym st) (refl, refl) in
-      let ready : IsReady (inode_in consts s2) (t.number + 1) e.journal t.hash_state t.mind.checked
-      (slot_in (due_at p t.mind.thought.mind)) d =
+      let ready : IsReady (inode_in consts s2) (t.number + 1) e.journal t.hash_state
+      t.task_state.checked (slot_in (due_at p t.task_state.position.call_state)) d =
       ready_by_look consts t h i s2 e.before e.journal d x a e.at (e.looked s2 a) on in
       subst (λ (xs : List Event). HashesBefore (inode_in consts s2) xs t.hash_state d) (sym e.seen)
       ready.hashes
@@ -138,9 +139,9 @@ module _ (consts : WorldConsts) (t : Tasked) (h : List Answer) (s : State) (pass
   hashes_left (Some (Appends rule)) st = tt
   hashes_left None st = tt
 
-  rises_left : RisesWithin (log (mode_in consts) t.number t.mind.program h) passes.book.seen
+  rises_left : RisesWithin (log (mode_in consts) t.number t.task_state.program h) passes.book.seen
   rises_left =
-      rises_look (log (mode_in consts) t.number t.mind.program h) t.passes.book.seen
+      rises_look (log (mode_in consts) t.number t.task_state.program h) t.passes.book.seen
       passes.book.seen
       (subst (λ (xs : List Entry). IsPrefix t.passes.book.seen xs) (sym l.book_seen) l.book_before)
       x.rises
@@ -156,11 +157,12 @@ look_is_played consts t h s passes x l = record {
   signals = l.sems.mine ∙ append-nil t.passes.sems.mine ∙ x.signals;
   rules = l.rules.mine ∙ append-nil t.passes.rules.mine ∙ x.rules;
   unlisted = l.book.mine ∙ append-nil t.passes.book.mine ∙ x.unlisted;
-  checks = λ programs. law_fits_with_more (scene_of consts programs) t.mind.program
+  checks = λ programs. law_fits_with_more (scene_of consts programs) t.task_state.program
       (seen_by t.passes.inodes t.passes.rules) (seen_by passes.inodes passes.rules) h
       (sees_more consts t h s passes x l) (x.checks programs);
   rises = rises_left consts t h s passes x l;
-  hashed = hashes_left consts t h s passes x l (step_at t.mind.program t.mind.thought.mind) refl;
+  hashed = hashes_left consts t h s passes x l
+      (step_at t.task_state.program t.task_state.position.call_state) refl;
 }
 
 -- ---- what the lists themselves have
@@ -182,7 +184,7 @@ module _ (consts : WorldConsts) (t : Tasked) (h : List Answer) (s : State) (pass
       (z.0, (z.1, e.seen ∙ same_Some e.journal journal (sym e.journal_at ∙ g)))
 
   events_made : (k : ℕ) (journal : List Event) → slice_get s.journals k ≡ Some journal
-      → events_of t.number journal ≡ own (mode_in consts) t.number t.mind.program k h
+      → events_of t.number journal ≡ own (mode_in consts) t.number t.task_state.program k h
   events_made k journal g =
       let z = journal_seen k journal g in
       let e : here k z.0 = l.inodes k z.0 z.1.0 in
@@ -216,9 +218,10 @@ look_is_made consts t s passes k l =
       events = events_made consts t h s passes y l;
       signals = l.signals ∙ y.signals;
       rules = l.appended ∙ y.rules;
-      checks = λ programs. law_fits_with_more (scene_of consts programs) t.mind.program
+      checks = λ programs. law_fits_with_more (scene_of consts programs) t.task_state.program
           (seen_by passes.inodes passes.rules) (seen_in s) h (sees_all consts t h s passes y l)
           (y.checks programs);
       rises = subst (λ (xs : List Entry).
-          RisesWithin (log (mode_in consts) t.number t.mind.program h) xs) l.book_seen y.rises;
+          RisesWithin (log (mode_in consts) t.number t.task_state.program h) xs)
+          l.book_seen y.rises;
     }

@@ -10,8 +10,8 @@ use Rattle.inode_events.specs.Stage.{Stage, stage_in}
 use Rattle.inode_events.specs.declared.deed.Deed.TheVariants as deed
 use Rattle.inode_events.specs.declared.deed.How.{How}
 use Rattle.inode_events.specs.declared.told.Event.{Event}
-use Rattle.call_steps.specs.Mind.{Mind, Step, deed_of, plain_step, progress_of, step_by}
-use Rattle.call_steps.specs.Mind.{Does, Checks}
+use Rattle.call_steps.specs.CallState.{CallState, Step, deed_of, plain_step, progress_of, step_by}
+use Rattle.call_steps.specs.CallState.{Does, Checks}
 use Rattle.call_steps.specs.declared.ask.Ask.{Ask}
 use Rattle.call_steps.specs.declared.ask.Ask.TheVariants as ask
 use Rattle.call_steps.specs.declared.call.Call.{Call}
@@ -20,7 +20,7 @@ use Rattle.call_steps.specs.declared.held.Handle.{Handle}
 use Rattle.call_steps.specs.declared.reply.Reply.{Reply}
 use Rattle.world_model.specs.laws_of_journals.Own.{IsBy, counter, own_past}
 use Rattle.world_model.proofs.laws_of_journals.Bridge.{own_bridge}
-use Rattle.run_model.specs.History.{Answer, call_at, own, step_in, thought}
+use Rattle.run_model.specs.History.{Answer, call_at, own, position, step_in}
 use Rattle.run_model.specs.Scene.{Program}
 use Rattle.run_model.specs.Served.{events_of}
 use Rattle.world_model.specs.laws_of_progress.NextSteps.{IsFit}
@@ -88,7 +88,7 @@ module _ (inode : Inode) (n : ℕ) (p : List Event) where
     step_is_by ask.CloseFinish a = by_file a.0
     step_is_by ask.Plain a = plain_by c admin
 
-  call_by : (prog : Program) (m : Mind) (i : ℕ) (o : Option Call) → call_at prog m ≡ o
+  call_by : (prog : Program) (m : CallState) (i : ℕ) (o : Option Call) → call_at prog m ≡ o
       → Fits prog m i Lives Hows → StepBy i n p (step_in prog o m)
   call_by prog m i None e f = tt
   call_by prog m i (Some c) e f =
@@ -102,10 +102,10 @@ pub files_fit : (inode : Inode) (n : ℕ) (p : Program) (h : List Answer) (i : �
     (journal : List Event) → ((k : ℕ) (c : Call) → slice_get p.calls k ≡ Some c → IsFit c)
     → EachFollows inode (newest_first journal)
     → events_of n journal ≡ own inode.settings.mode n p i h
-    → Fits p (thought inode.settings.mode p h).mind i (Lives inode (n + 1) (newest_first journal))
-    (Hows inode (n + 1) (newest_first journal))
+    → Fits p (position inode.settings.mode p h).call_state i
+    (Lives inode (n + 1) (newest_first journal)) (Hows inode (n + 1) (newest_first journal))
 files_fit inode n p h i journal fit legal owns =
-    subst (λ (xs : List (ℕ × Event)). Fits p (thought inode.settings.mode p h).mind i
+    subst (λ (xs : List (ℕ × Event)). Fits p (position inode.settings.mode p h).call_state i
     (λ f. stage_in inode f xs) (λ f. how_in f xs))
     (sym (own_bridge (n + 1) journal ∙ ap reverse owns))
     (fits_history inode n p i fit h (subst AreGood (own_bridge (n + 1) journal ∙ ap reverse owns)
@@ -116,9 +116,9 @@ pub next_is_by : (inode : Inode) (n : ℕ) (p : Program) (h : List Answer) (i : 
     → EachFollows inode (newest_first journal)
     → events_of n journal ≡ own inode.settings.mode n p i h
     → StepBy i (n + 1) (newest_first journal)
-    (step_in p (call_at p (thought inode.settings.mode p h).mind)
-    (thought inode.settings.mode p h).mind)
+    (step_in p (call_at p (position inode.settings.mode p h).call_state)
+    (position inode.settings.mode p h).call_state)
 next_is_by inode n p h i journal fit legal owns =
-    call_by inode (n + 1) (newest_first journal) p (thought inode.settings.mode p h).mind i
-    (call_at p (thought inode.settings.mode p h).mind) refl
+    call_by inode (n + 1) (newest_first journal) p (position inode.settings.mode p h).call_state i
+    (call_at p (position inode.settings.mode p h).call_state) refl
     (files_fit inode n p h i journal fit legal owns)

@@ -10,8 +10,8 @@ use Rattle.inode_events.specs.declared.told.Event.{Event}
 use Rattle.inode_events.specs.declared.told.Told.{Told}
 use Rattle.inode_events.specs.declared.told.Told.TheVariants as told
 use Rattle.call_steps.specs.Handles.{hand_of}
-use Rattle.call_steps.specs.Mind.{Mind, Progress, Step, after_of, ask_of, begun, deed_of, moved, plain_step, progress_of, step_by}
-use Rattle.call_steps.specs.Mind.{Does}
+use Rattle.call_steps.specs.CallState.{CallState, Progress, Step, after_of, ask_of, begun, deed_of, moved, plain_step, progress_of, step_by}
+use Rattle.call_steps.specs.CallState.{Does}
 use Rattle.call_steps.specs.Steps.{course_of, next}
 use Rattle.call_steps.specs.declared.ask.Ask.{Ask}
 use Rattle.call_steps.specs.declared.ask.Ask.TheVariants as ask
@@ -19,7 +19,7 @@ use Rattle.call_steps.specs.declared.call.Call.{Call}
 use Rattle.call_steps.specs.declared.call.Call.TheVariants as call
 use Rattle.call_steps.specs.declared.due.Next.{Next}
 use Rattle.call_steps.specs.declared.due.Next.TheVariants.{On, Over}
-use Rattle.run_model.specs.History.{Answer, Thought, call_at, hear, hear_in, step_at, step_in}
+use Rattle.run_model.specs.History.{Answer, Position, call_at, resume, resume_in, step_at, step_in}
 use Rattle.run_model.specs.Scene.{Program}
 use Rattle.world_model.specs.WorldConsts.{InodeConsts, WorldConsts, inode_in}
 use Rattle.world_model.specs.Tasks.{Collects, HashesFor, HasSummed, HasTakenIn}
@@ -118,11 +118,11 @@ after_ask consts passes g admin c p t ask.CloseChunk x s q a b = chunk_after t (
   chunk_after u y = y
 after_ask consts passes g admin c p t k x s q a b = tt
 
--- ---- the mind after a step
+-- ---- the state after a step
 
 module _ (consts : WorldConsts) (passes : List (Passed Event)) (g : HashState) (p : Program) where
   -- a call that begins needs no hashing
-  pub begins : (m : Mind) (o : Option Call)
+  pub begins : (m : CallState) (o : Option Call)
       → HashesFor consts passes g (step_in p o (record m { progress = None }))
   begins m None = tt
   begins m (Some c) =
@@ -131,7 +131,7 @@ module _ (consts : WorldConsts) (passes : List (Passed Event)) (g : HashState) (
       (λ s q x y. idle_ask consts s q g b.due.ask
       (first_begins c (hand_of p.cred.admin m.handles c)).0)
 
-  hashes_moved : (c : Call) (m : Mind) (gg : Progress) (place : ℕ) (n : Next) (k : Ask)
+  hashes_moved : (c : Call) (m : CallState) (gg : Progress) (place : ℕ) (n : Next) (k : Ask)
       → call_at p m ≡ Some c
       → ((s : InodeConsts) (q : Passed Event) → slice_get consts.each_inode gg.inode ≡ Some s
       → slice_get passes gg.inode ≡ Some q
@@ -139,15 +139,15 @@ module _ (consts : WorldConsts) (passes : List (Passed Event)) (g : HashState) (
       (Sums (inode_in consts s) q.seen g) n)
       → HashesFor consts passes g (step_at p (moved c m gg place n).0)
   hashes_moved c m gg place (Over r) k e x =
-      let after : Mind = (moved c m gg place (Over r)).0 in begins after (call_at p after)
+      let after : CallState = (moved c m gg place (Over r)).0 in begins after (call_at p after)
   hashes_moved c m gg place (On d) k e x =
-      let after : Mind = (moved c m gg place (On d)).0 in
+      let after : CallState = (moved c m gg place (On d)).0 in
       subst (λ (o : Option Call). HashesFor consts passes g (step_in p o after)) (sym e)
       (by_ask consts passes g p.cred.admin c (progress_of p.cred.admin c after) d.ask
       (λ s q a b. (x s q a b).hashes))
 
   -- what is hashed suits the step that comes next
-  hashes_next : (mode : Mode) (c : Call) (m : Mind) (a : Answer) → call_at p m ≡ Some c
+  hashes_next : (mode : Mode) (c : Call) (m : CallState) (a : Answer) → call_at p m ≡ Some c
       → HashesAfterStep consts passes g (ask_of p.cred.admin c m) a.told
       → HashesFor consts passes g
       (step_at p (after_of mode p.cred.admin c m a.place a.told a.action).0)
@@ -158,18 +158,18 @@ module _ (consts : WorldConsts) (passes : List (Passed Event)) (g : HashState) (
       (Sums (inode_in consts s) q.seen g) gg.due.ask a.told
       (after_ask consts passes g p.cred.admin c gg a.told gg.due.ask x s q y z))
 
-  heard_hashes : (mode : Mode) (t : Thought) (a : Answer) (step : Step) (o : Option Call)
-      → call_at p t.mind ≡ o → step_in p o t.mind ≡ Some step
+  resumed_hashes : (mode : Mode) (t : Position) (a : Answer) (step : Step) (o : Option Call)
+      → call_at p t.call_state ≡ o → step_in p o t.call_state ≡ Some step
       → HashesAfterStep consts passes g step a.told
-      → HashesFor consts passes g (step_at p (hear_in mode p o t a).mind)
-  heard_hashes mode t a step None e f x = absurd (cc)
-  heard_hashes mode t a step (Some c) e f x =
-      hashes_next mode c t.mind a e
+      → HashesFor consts passes g (step_at p (resume_in mode p o t a).call_state)
+  resumed_hashes mode t a step None e f x = absurd (cc)
+  resumed_hashes mode t a step (Some c) e f x =
+      hashes_next mode c t.call_state a e
       (subst (λ (s : Step). HashesAfterStep consts passes g s a.told)
-      (sym (same_Some (ask_of p.cred.admin c t.mind) step f)) x)
+      (sym (same_Some (ask_of p.cred.admin c t.call_state) step f)) x)
 
-  pub hashes_heard : (mode : Mode) (t : Thought) (a : Answer) (step : Step)
-      → step_at p t.mind ≡ Some step → HashesAfterStep consts passes g step a.told
-      → HashesFor consts passes g (step_at p (hear mode p t a).mind)
-  hashes_heard mode t a step f x =
-      heard_hashes mode t a step (call_at p t.mind) refl f x
+  pub hashes_resumed : (mode : Mode) (t : Position) (a : Answer) (step : Step)
+      → step_at p t.call_state ≡ Some step → HashesAfterStep consts passes g step a.told
+      → HashesFor consts passes g (step_at p (resume mode p t a).call_state)
+  hashes_resumed mode t a step f x =
+      resumed_hashes mode t a step (call_at p t.call_state) refl f x

@@ -16,8 +16,8 @@ use Rattle.inode_events.specs.Stage.{CloseCollected, CloseCollecting, Collected,
 use Rattle.inode_events.specs.declared.deed.Deed.{Deed}
 use Rattle.inode_events.specs.declared.deed.Deed.TheVariants as deed
 use Rattle.inode_events.specs.declared.told.Event.{Event}
-use Rattle.call_steps.specs.Mind.{Mind, Progress, Step, deed_of, plain_step, progress_of, step_by}
-use Rattle.call_steps.specs.Mind.{Nothing, Does, Checks, Signals, Appends}
+use Rattle.call_steps.specs.CallState.{CallState, Progress, Step, deed_of, plain_step, progress_of, step_by}
+use Rattle.call_steps.specs.CallState.{Nothing, Does, Checks, Signals, Appends}
 use Rattle.call_steps.specs.declared.ask.Ask.{Ask}
 use Rattle.call_steps.specs.declared.ask.Ask.TheVariants as ask
 use Rattle.call_steps.specs.declared.call.Call.{Call}
@@ -25,7 +25,7 @@ use Rattle.call_steps.specs.declared.call.Call.TheVariants as call
 use Rattle.world_model.specs.laws_of_journals.Own.{IsBy, check_in, counter}
 use Rattle.world_model.proofs.laws_of_journals.Bridge.{own_bridge}
 use Rattle.world_model.proofs.laws_of_journals.Owning.{stage_own}
-use Rattle.run_model.specs.History.{Answer, Thought, call_at, event_in, own, step_at, step_in, thought, who_at}
+use Rattle.run_model.specs.History.{Answer, Position, call_at, event_in, own, position, step_at, step_in, who_at}
 use Rattle.run_model.specs.Scene.{Program}
 use Rattle.run_model.specs.Served.{events_of}
 use Rattle.world_model.specs.laws_of_progress.NextSteps.{MayMake}
@@ -37,7 +37,7 @@ use Rattle.world_model.specs.Due.{slot_in}
 use Rattle.world_model.specs.Ready.{AsksBy, HasLooked, IsReady, IsStepOn, ReadyByLook}
 use Rattle.world_model.proofs.Mine.{StepBy, next_is_by}
 use Rattle.world_model.proofs.Takes.{ByCheck, IfTake, checked_by, take_law}
-use Rattle.world_model.specs.minds.Value.{due_at}
+use Rattle.world_model.specs.task_states.Value.{due_at}
 
 may_of : (inode : Inode) (n i : ℕ) (p : List Event) (d : Deed) (o : Option Step)
     → MayMake inode i p o → StepBy i n p o → IsStepOn i d o → May inode p d × IsBy n d p
@@ -117,7 +117,7 @@ last_check_is : (mode : Mode) (n : ℕ) (p : Program) (i : ℕ) (h : List Answer
     (slot : Slot) → ByCheck mode p h i file slot → LastCheck mode n p i h file slot
 last_check_is mode n p i h file slot r =
     let a = r.answer in
-    let m = (thought mode p r.before).mind in
+    let m = (position mode p r.before).call_state in
     let who = who_at n p m in
     let events : event_in i who (step_at p m) a
     ≡ (
@@ -237,7 +237,7 @@ module _ (inode : Inode) (n : ℕ) (p : Program) (h : List Answer) (i : ℕ) (se
     asks_row admin c g d ask.Plain m b e r =
         no_asks checked (slot_in (Some ask.Plain)) c admin d e
 
-    asks_call : (m : Mind) (d : Deed) (o : Option Call) → May inode (newest_first list) d
+    asks_call : (m : CallState) (d : Deed) (o : Option Call) → May inode (newest_first list) d
         → IsBy (n + 1) d (newest_first list) → IsStepOn i d (step_in p o m)
         → ((c : Call) → o ≡ Some c
         → IfTake inode.settings.mode p h (progress_of p.cred.admin c m).inode
@@ -252,31 +252,31 @@ module _ (inode : Inode) (n : ℕ) (p : Program) (h : List Answer) (i : ℕ) (se
 -- ---- all parts of readiness together
 
 ready_at : (consts : WorldConsts) (t : Tasked) (h : List Answer) (i : ℕ) (s : InodeConsts)
-    (q : Passed Event) (list : List Event) (d : Deed) (m : Mind) → HasPlayed consts t h
+    (q : Passed Event) (list : List Event) (d : Deed) (m : CallState) → HasPlayed consts t h
     → slice_get consts.each_inode i ≡ Some s → slice_get t.passes.inodes i ≡ Some q
     → HasLooked (inode_in consts s) (t.number + 1) q.seen list q.mine
-    → (thought (mode_in consts) t.mind.program h).mind ≡ m
-    → HashesFor consts t.passes.inodes t.hash_state (step_at t.mind.program m)
-    → IsStepOn i d (step_at t.mind.program m)
-    → IsReady (inode_in consts s) (t.number + 1) list t.hash_state t.mind.checked
-    (slot_in (due_at t.mind.program m)) d
+    → (position (mode_in consts) t.task_state.program h).call_state ≡ m
+    → HashesFor consts t.passes.inodes t.hash_state (step_at t.task_state.program m)
+    → IsStepOn i d (step_at t.task_state.program m)
+    → IsReady (inode_in consts s) (t.number + 1) list t.hash_state t.task_state.checked
+    (slot_in (due_at t.task_state.program m)) d
 ready_at consts t h i s q list d m x a b l same hashed e =
     let inode = inode_in consts s in
-    let p = t.mind.program in
+    let p = t.task_state.program in
     let own_is : q.mine ≡ own (mode_in consts) t.number p i h = x.events i q b in
     let owns : events_of t.number list ≡ own (mode_in consts) t.number p i h = l.own ∙ own_is in
     let fit = λ (k : ℕ) (c : Call) (z : slice_get p.calls k ≡ Some c). (x.calls k c z).0 in
     let may : MayMake inode i (newest_first list) (step_at p m) =
-    subst (λ (y : Mind). MayMake inode i (newest_first list) (step_at p y)) same
+    subst (λ (y : CallState). MayMake inode i (newest_first list) (step_at p y)) same
     (next_step_may inode t.number p h i list fit l.legal.1 l.owned owns) in
     let by : StepBy i (t.number + 1) (newest_first list) (step_at p m) =
-    subst (λ (y : Mind). StepBy i (t.number + 1) (newest_first list) (step_at p y)) same
+    subst (λ (y : CallState). StepBy i (t.number + 1) (newest_first list) (step_at p y)) same
     (next_is_by inode t.number p h i list fit l.legal.1 owns) in
     let both = may_of inode (t.number + 1) i (newest_first list) d (step_at p m) may by e in
     let takes : (c : Call) → call_at p m ≡ Some c
     → IfTake (mode_in consts) p h (progress_of p.cred.admin c m).inode
     (progress_of p.cred.admin c m).file (progress_of p.cred.admin c m).due.ask =
-    subst (λ (y : Mind). (c : Call) → call_at p y ≡ Some c
+    subst (λ (y : CallState). (c : Call) → call_at p y ≡ Some c
     → IfTake (mode_in consts) p h (progress_of p.cred.admin c y).inode
     (progress_of p.cred.admin c y).file (progress_of p.cred.admin c y).due.ask) same
     (take_law (mode_in consts) p h) in
@@ -286,11 +286,11 @@ ready_at consts t h i s q list d m x a b l same hashed e =
       hashes = hashes_still inode (t.number + 1) q.seen list q.mine l t.hash_state d both.0 both.1
           (x.placed i q b)
           (hashes_of consts t.passes.inodes t.hash_state i s q d (step_at p m) a b hashed e);
-      asks = asks_call inode t.number p h i q.seen list q.mine l own_is t.mind.checked x.checked m
-          d (call_at p m) both.0 both.1 e takes;
+      asks = asks_call inode t.number p h i q.seen list q.mine l own_is t.task_state.checked
+          x.checked m d (call_at p m) both.0 both.1 e takes;
     }
 
 pub ready_by_look : ReadyByLook
 ready_by_look consts t h i s q list d x a b l e =
-    ready_at consts t h i s q list d t.mind.thought.mind x a b l
-    (ap (λ (y : Thought). y.mind) x.stands) x.hashed e
+    ready_at consts t h i s q list d t.task_state.position.call_state x a b l
+    (ap (λ (y : Position). y.call_state) x.stands) x.hashed e

@@ -4,13 +4,13 @@ use Rattle.std.specs.Prelude.{◌⊎◌, slice_get, slice_set}
 use Rattle.std.proofs.lemmas.List.{map-set}
 use Rattle.std.proofs.lemmas.Option.{same_Some, slice_get_within}
 use Rattle.world_model.proofs.laws_of_runs.Owned.{set_parts}
-use Rattle.run_model.specs.History.{Thought}
+use Rattle.run_model.specs.History.{Position}
 use Rattle.run_model.specs.Rounds.{is_moved, moves_at}
 use Rattle.run_model.specs.Scene.{Program, Scene}
 use Rattle.run_model.specs.Turns.{Moment, Turned, step_task, turned}
 use Rattle.run_model.specs.declared.turn.Turn.{Turn}
 use Rattle.world_model.specs.WorldConsts.{WorldConsts}
-use Rattle.world_model.specs.Runs.{AreTasks, IsNth, program_of, programs_of, thought_of}
+use Rattle.world_model.specs.Runs.{AreTasks, IsNth, position_of, program_of, programs_of}
 use Rattle.world_model.specs.Tasks.{IsTask, Tasked}
 use Rattle.world_model.specs.World.{WorldValue}
 use Rattle.world_model.proofs.Eventing.{get_map}
@@ -59,30 +59,31 @@ module _ (world world2 : WorldValue) (tasks : List Tasked) (k : ℕ) (t t2 : Tas
   -- the effect of the step is that of a turn of its task
   is_turn : (r : Turn) → StepsTaskTo world world2 t t2 r → IsTurn world world2 tasks tasks2 k r
   is_turn r goes = record {
-    moment = sym (ap (λ (o : Option Program). turned scene start k o (slice_get start.thoughts k))
+    moment = sym (ap (λ (o : Option Program). turned scene start k o (slice_get start.positions k))
         program_there
-        ∙ ap (λ (o : Option Thought). turned scene start k (Some t.mind.program) o) thought_there
-        ∙ ap (λ (x : Turned). record {
+        ∙ ap (λ (o : Option Position). turned scene start k (Some t.task_state.program) o)
+        position_there ∙ ap (λ (x : Turned). record {
           state = x.state;
-          thoughts = slice_set start.thoughts k x.thought;
+          positions = slice_set start.positions k x.position;
         }) gone
-        ∙ ap (λ (ts : List Thought). record { state = world2.state; thoughts = ts })
-        (sym (map-set thought_of tasks k t2)));
+        ∙ ap (λ (ts : List Position). record { state = world2.state; positions = ts })
+        (sym (map-set position_of tasks k t2)));
     moves = sym (ap (λ (o : Option Program). moves_at scene start k o
-        (slice_get start.thoughts k)) program_there
-        ∙ ap (λ (o : Option Thought). moves_at scene start k (Some t.mind.program) o) thought_there
-        ∙ ap (λ (x : Turned). is_moved x.turn) gone);
+        (slice_get start.positions k)) program_there
+        ∙ ap (λ (o : Option Position). moves_at scene start k (Some t.task_state.program) o)
+        position_there ∙ ap (λ (x : Turned). is_moved x.turn) gone);
   } where
-    program_there : slice_get scene.programs k ≡ Some t.mind.program
+    program_there : slice_get scene.programs k ≡ Some t.task_state.program
     program_there = get_map program_of tasks k t there
 
-    thought_there : slice_get start.thoughts k ≡ Some t.mind.thought
-    thought_there = get_map thought_of tasks k t there
+    position_there : slice_get start.positions k ≡ Some t.task_state.position
+    position_there = get_map position_of tasks k t there
 
-    gone : step_task scene k t.mind.program world.state t.mind.thought
-        ≡ record { state = world2.state; thought = t2.mind.thought; turn = r }
-    gone = subst (λ (n : ℕ). step_task scene n t.mind.program world.state t.mind.thought
-        ≡ record { state = world2.state; thought = t2.mind.thought; turn = r })
+    gone : step_task scene k t.task_state.program world.state t.task_state.position
+        ≡ record { state = world2.state; position = t2.task_state.position; turn = r }
+    gone = subst (λ (n : ℕ). step_task scene n t.task_state.program world.state
+        t.task_state.position
+        ≡ record { state = world2.state; position = t2.task_state.position; turn = r })
         (all.each k t there).number (goes (programs_of tasks))
 
 -- proof of `StepIsTurn`

@@ -15,7 +15,7 @@ pub mod TurnLaws
 pub use Rattle.inode_cell.specs.laws_of_journals
 pub use Rattle.run_laws.specs as laws_of_runs
 pub use Rattle.progress_laws.specs as laws_of_progress
-pub use Rattle.task_mind.specs as minds
+pub use Rattle.task_state.specs as task_states
 pub use Rattle.inode_cell.specs as inodes
 pub use Rattle.run_laws.specs.steps
 pub use Rattle.inode_cell.specs.states

@@ -13,8 +13,8 @@ use Rattle.inode_events.specs.NewestFirst.{newest_first}
 use Rattle.inode_events.specs.declared.deed.Deed.{Deed}
 use Rattle.inode_events.specs.declared.deed.Deed.TheVariants as deed
 use Rattle.inode_events.specs.declared.told.Event.{Event}
-use Rattle.call_steps.specs.Mind.{Step}
-use Rattle.call_steps.specs.Mind.{Does, Checks}
+use Rattle.call_steps.specs.CallState.{Step}
+use Rattle.call_steps.specs.CallState.{Does, Checks}
 use Rattle.world_model.specs.laws_of_journals.OwnLaws.{TellsByMine}
 use Rattle.world_model.specs.laws_of_journals.Own.{IsBy, IsOwned}
 use Rattle.run_model.specs.History.{Answer, step_at}
@@ -22,7 +22,7 @@ use Rattle.world_model.specs.WorldConsts.{InodeConsts, WorldConsts, inode_in}
 use Rattle.world_model.specs.Tasks.{HashesBefore, HasPlayed, Tasked}
 use Rattle.world_model.specs.declared.hash_state.HashState.{HashState}
 use Rattle.world_model.specs.Due.{slot_in}
-use Rattle.world_model.specs.minds.Value.{due_at}
+use Rattle.world_model.specs.task_states.Value.{due_at}
 
 -- a take has the slot and the action of the last check of its file
 abbrev pub AsksBy : List Event → ActionValue → Slot → Deed → Type 0
@@ -62,6 +62,6 @@ ReadyByLook =
     (q : Passed Event) (list : List Event) (d : Deed) → HasPlayed consts t h
     → slice_get consts.each_inode i ≡ Some s → slice_get t.passes.inodes i ≡ Some q
     → HasLooked (inode_in consts s) (t.number + 1) q.seen list q.mine
-    → IsStepOn i d (step_at t.mind.program t.mind.thought.mind)
-    → IsReady (inode_in consts s) (t.number + 1) list t.hash_state t.mind.checked
-    (slot_in (due_at t.mind.program t.mind.thought.mind)) d
+    → IsStepOn i d (step_at t.task_state.program t.task_state.position.call_state)
+    → IsReady (inode_in consts s) (t.number + 1) list t.hash_state t.task_state.checked
+    (slot_in (due_at t.task_state.program t.task_state.position.call_state)) d

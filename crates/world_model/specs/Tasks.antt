@@ -14,21 +14,21 @@ use Rattle.run_laws.specs.events.declared.deed.Deed.{Deed}
 use Rattle.run_laws.specs.events.declared.deed.Deed.TheVariants as deed
 use Rattle.run_laws.specs.events.declared.told.Event.{Event}
 use Rattle.inode_hashing.specs.Hashing.{HasHashed}
-use Rattle.run_laws.specs.steps.Mind.{Step}
-use Rattle.run_laws.specs.steps.Mind.{Does, Checks}
+use Rattle.run_laws.specs.steps.CallState.{Step}
+use Rattle.run_laws.specs.steps.CallState.{Does, Checks}
 use Rattle.run_laws.specs.steps.declared.call.Call.{Call}
 use Rattle.run_laws.specs.Logs.{log}
 use Rattle.run_laws.specs.Steps.{RisesWithin}
 use Rattle.run_laws.specs.rules.declared.cell.RuleEntry.{RuleEntry}
 use Rattle.run_laws.specs.Checks.{ChecksFit, seen_by}
-use Rattle.run_laws.specs.model.History.{Answer, own, own_rules, own_signals, step_at, thought}
+use Rattle.run_laws.specs.model.History.{Answer, own, own_rules, own_signals, position, step_at}
 use Rattle.run_laws.specs.model.Scene.{Program}
 use Rattle.progress_laws.specs.NextSteps.{IsFit}
 use Rattle.progress_laws.specs.ScriptFiles.{IsWithin}
 use Rattle.world_model.specs.WorldConsts.{InodeConsts, WorldConsts, inode_in, mode_in, scene_of}
 use Rattle.world_model.specs.declared.hash_state.HashState.{HashState}
 use Rattle.world_model.specs.declared.hash_state.HashState.TheVariants as hash_state
-use Rattle.task_mind.specs.Value.{TaskValue}
+use Rattle.task_state.specs.Value.{TaskValue}
 
 -- ---- passes
 
@@ -104,7 +104,7 @@ action_by _ a old = old
 abbrev pub last_action : Mode → Program → List Answer → ActionValue
 last_action mode p [] = no_action
 last_action mode p (a ∷ before) =
-    action_by (step_at p (thought mode p before).mind) a (last_action mode p before)
+    action_by (step_at p (position mode p before).call_state) a (last_action mode p before)
 
 -- ---- a task
 
@@ -112,7 +112,7 @@ last_action mode p (a ∷ before) =
 -- passes
 pub record Tasked : Type 0 where
   pub number : ℕ
-  pub mind : TaskValue
+  pub task_state : TaskValue
   pub hash_state : HashState
   pub passes : PassesValue
 
@@ -121,30 +121,30 @@ abbrev pub AreCallsOf : ℕ → List Call → Type 0
 AreCallsOf count calls =
     (k : ℕ) (c : Call) → slice_get calls k ≡ Some c → IsFit c × IsWithin count c
 
--- The task has made exactly the steps of the history: its thought results from them, and the own
+-- The task has made exactly the steps of the history: its position results from them, and the own
 -- entries of its passes are those that the history adds to each list.
 pub record HasPlayed (consts : WorldConsts) (t : Tasked) (h : List Answer) : Type 0 where
-  pub calls : AreCallsOf (length consts.each_inode) t.mind.program.calls
-  pub stands : thought (mode_in consts) t.mind.program h ≡ t.mind.thought
-  pub checked : t.mind.checked ≡ last_action (mode_in consts) t.mind.program h
+  pub calls : AreCallsOf (length consts.each_inode) t.task_state.program.calls
+  pub stands : position (mode_in consts) t.task_state.program h ≡ t.task_state.position
+  pub checked : t.task_state.checked ≡ last_action (mode_in consts) t.task_state.program h
   pub passes : ArePassesOf consts t.number t.passes
   pub events : (i : ℕ) (q : Passed Event) → slice_get t.passes.inodes i ≡ Some q
-      → q.mine ≡ own (mode_in consts) t.number t.mind.program i h
+      → q.mine ≡ own (mode_in consts) t.number t.task_state.program i h
   -- the task's events are at places that its passes have seen
   pub placed : (i : ℕ) (q : Passed Event) → slice_get t.passes.inodes i ≡ Some q
       → All (λ x. x.0 < length q.seen) q.mine
   pub signals : t.passes.sems.mine
-      ≡ own_signals (mode_in consts) t.number t.mind.program h
-  pub rules : t.passes.rules.mine ≡ own_rules (mode_in consts) t.number t.mind.program h
+      ≡ own_signals (mode_in consts) t.number t.task_state.program h
+  pub rules : t.passes.rules.mine ≡ own_rules (mode_in consts) t.number t.task_state.program h
   -- the task adds nothing to the measurement list itself
   pub unlisted : t.passes.book.mine ≡ []
   -- the task's checks were decided by rules that it has seen
-  pub checks : (programs : List Program) → ChecksFit (scene_of consts programs) t.mind.program
+  pub checks : (programs : List Program) → ChecksFit (scene_of consts programs) t.task_state.program
       (seen_by t.passes.inodes t.passes.rules) h
   -- the places of the measurement list in the task's answers increase, within what it has seen
-  pub rises : RisesWithin (log (mode_in consts) t.number t.mind.program h) t.passes.book.seen
+  pub rises : RisesWithin (log (mode_in consts) t.number t.task_state.program h) t.passes.book.seen
   pub hashed : HashesFor consts t.passes.inodes t.hash_state
-      (step_at t.mind.program t.mind.thought.mind)
+      (step_at t.task_state.program t.task_state.position.call_state)
 
 -- the task has made the steps of some history
 pub record IsTask (consts : WorldConsts) (t : Tasked) : Type 0 where

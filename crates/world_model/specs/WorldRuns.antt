@@ -23,14 +23,15 @@ moment_in world tasks = moment_of world.state tasks
 pub record KeepsTask (world world2 : WorldValue) (t t2 : Tasked) : Type 0 where
   pub consts : world2.consts ≡ world.consts
   pub number : t2.number ≡ t.number
-  pub program : t2.mind.program ≡ t.mind.program
+  pub program : t2.task_state.program ≡ t.task_state.program
   pub task : IsTask world2.consts t2
 
 -- the task made its turn, whatever the programs of the others are
 abbrev pub StepsTaskTo : WorldValue → WorldValue → Tasked → Tasked → Turn → Type 0
 StepsTaskTo world world2 t t2 r = (programs : List Program)
-    → step_task (scene_of world.consts programs) t.number t.mind.program world.state t.mind.thought
-    ≡ record { state = world2.state; thought = t2.mind.thought; turn = r }
+    → step_task (scene_of world.consts programs) t.number t.task_state.program world.state
+    t.task_state.position
+    ≡ record { state = world2.state; position = t2.task_state.position; turn = r }
 
 -- ---- turns of many
 

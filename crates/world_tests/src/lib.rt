@@ -10,4 +10,4 @@ mod cells;
 #[cfg(test)]
 mod locks;
 #[cfg(test)]
-mod minds;
+mod task_states;

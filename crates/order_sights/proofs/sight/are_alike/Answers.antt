@@ -1,8 +1,8 @@
 use Rattle.std.proofs.Common.{◌≡◌, ◌∙◌, true, List, length, map, ap, sym, subst, arith}
 use Rattle.std.proofs.lemmas.List.{nil_from_length}
-use Rattle.task_core.specs.worlds.Runs.{thought_of}
+use Rattle.task_core.specs.worlds.Runs.{position_of}
 use Rattle.task_core.specs.worlds.Tasks.{Tasked}
-use Rattle.order_sights.specs.Pairs.{AreThoughtsPaired, are_within}
+use Rattle.order_sights.specs.Pairs.{ArePositionsPaired, are_within}
 use Rattle.order_sights.specs.declared.sight.Sight.{Sight}
 use Rattle.order_sights.proofs.Meeting.{alike}
 use Rattle.order_sights.proofs.sight.are_alike.Goals as goal
@@ -20,10 +20,10 @@ returns c = λ t scene m n one two.
     (subst (λ n. are_within n pairs ≡ true) count ok.within)
     lists.there lists.back (nil_from_length c.args.a.now.ended.rules lists.counts.none)
     (nil_from_length c.args.b.now.ended.rules lists.counts.none2)
-    (subst (λ (us : List Tasked). AreThoughtsPaired pairs
-    (map thought_of c.args.a.now.tasks.items) (map thought_of us)) c.as_slice-4.ensures.value
-    (subst (λ (ts : List Tasked). AreThoughtsPaired pairs (map thought_of ts)
-    (map thought_of c.as_slice-4.result.now))
+    (subst (λ (us : List Tasked). ArePositionsPaired pairs
+    (map position_of c.args.a.now.tasks.items) (map position_of us)) c.as_slice-4.ensures.value
+    (subst (λ (ts : List Tasked). ArePositionsPaired pairs (map position_of ts)
+    (map position_of c.as_slice-4.result.now))
     (c.as_slice-3.ensures.value ∙ ap (λ (s : Sight). s.tasks.items) c.a.view_is)
     (c.same_tasks.ensures c.if-not-same_tasks.false)))
     (c.in_ok-same.ensures t)

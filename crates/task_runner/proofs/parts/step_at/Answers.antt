@@ -46,7 +46,8 @@ returns-clause-err g c =
     let t2 = c.step_shared.new.self in
     on_err_weaker {Q = StepsAt g.N.Name.consts tasks (slice_set tasks c.args.k t2) c.args.k None}
     c.step_shared.result
-    (λ (w : (t2.mind.thought ≡ t.mind.thought) × (mines_of t2.passes ≡ mines_of t.passes)).
+    (λ (w : (t2.task_state.position ≡ t.task_state.position)
+    × (mines_of t2.passes ≡ mines_of t.passes)).
     record {
       before = t;
       after = t2;
@@ -55,7 +56,7 @@ returns-clause-err g c =
       step = record {
         number = c.step_shared.ensures.number;
         program = c.step_shared.ensures.program;
-        thought = w.0;
+        position = w.0;
         mines = w.1;
       };
     }) c.step_shared.ensures.err

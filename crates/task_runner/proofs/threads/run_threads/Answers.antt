@@ -66,7 +66,7 @@ returns-clause-parts g c =
       parts = c.in_ok-after.ensures.parts;
       back = c.look_all.new.world;
       looked = c.look_all.new.tasks.items;
-      minds = c.look_all.ensures.same;
+      task_states = c.look_all.ensures.same;
       rounds = subst (λ (x : Scene). RoundsTo x
           (moment_in c.look_all.new.world c.look_all.new.tasks.items)
           (moment_in c.run_rounds.new.world c.run_rounds.new.tasks.items))

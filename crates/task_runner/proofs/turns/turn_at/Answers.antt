@@ -32,7 +32,7 @@ returns-clause-err g c =
     let t = c.index_mut-task.result.now in
     on_err_weaker c.step.result
     (λ (w : (c.step.new.world.state ≡ c.args.world.now.state)
-    × (c.step.new.self.mind.thought ≡ t.mind.thought)).
+    × (c.step.new.self.task_state.position ≡ t.task_state.position)).
     moment_same c.args.world.now c.step.new.world c.args.tasks.now.items c.args.k t
     c.step.new.self c.index_mut-task.ensures.value w.0 w.1) c.step.ensures.err
 

@@ -5,7 +5,7 @@ use Rattle.std.specs.declared.alloc.AllocError.{AllocError}
 use Rattle.inode_events.specs.declared.told.Told.{Told}
 use Rattle.task_steps.specs.Leaving as deeds
 use Rattle.task_steps.specs.worlds.World.{WorldInodeValue}
-use Rattle.task_steps.specs.minds.Steps.{deed_in}
+use Rattle.task_steps.specs.task_states.Steps.{deed_in}
 use Rattle.task_steps.proofs.Acted.{answered_told}
 use Rattle.task_steps.specs.Acting.{WorldInodeDidAlone, told_in}
 use Rattle.task_steps.specs.declared.answers.StepResult.{StepResult}

@@ -1,5 +1,5 @@
 use Rattle.std.proofs.Common.{refl}
-use Rattle.task_mind.specs.Steps.{deed_in}
+use Rattle.task_state.specs.Steps.{deed_in}
 use Rattle.task_steps.proofs.Leaving.{told_at}
 use Rattle.task_steps.proofs.doing.dispatch.Goals as goal
 

@@ -1,4 +1,4 @@
-use Rattle.task_mind.specs.Steps.{deed_in}
+use Rattle.task_state.specs.Steps.{deed_in}
 use Rattle.task_steps.proofs.Leaving.{leaves_alone}
 use Rattle.task_steps.proofs.doing.dispatch_alone.Goals as goal
 

@@ -1,7 +1,7 @@
 -- What the deed leaves after the look, it leaves of the cell and the pass before the look.
 use Rattle.task_steps.proofs.Leaving.{leaves_looked}
 use Rattle.task_steps.specs.Leaving.{told_in}
-use Rattle.task_mind.specs.Steps.{deed_in}
+use Rattle.task_state.specs.Steps.{deed_in}
 use Rattle.task_steps.proofs.doing.look_and_apply_alone.Goals as goal
 
 pub returns-clause-leaves : goal.returns-clause-leaves

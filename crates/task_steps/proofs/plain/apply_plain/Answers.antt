@@ -4,16 +4,16 @@ use Rattle.inode_events.specs.declared.deed.Deed.TheVariants as deed
 use Rattle.inode_events.specs.declared.told.Told.{Told}
 use Rattle.std.specs.Prelude.{IfOk}
 use Rattle.ima_templates.specs.declared.entry.Entry.{Entry}
-use Rattle.task_mind.specs.Steps.{deed_in}
-use Rattle.task_mind.specs.declared.step.Doing.{Doing}
+use Rattle.task_state.specs.Steps.{deed_in}
+use Rattle.task_state.specs.declared.step.DueDeed.{DueDeed}
 use Rattle.world_model.specs.inodes.answers.Answers.{wrote_told as answered}
-use Rattle.task_mind.specs.declared.step.Doing.TheVariants as doing
+use Rattle.task_state.specs.declared.step.DueDeed.TheVariants as doing
 use Rattle.inode_events.specs.declared.told.Told.TheVariants as told
 use Rattle.task_steps.proofs.plain.apply_plain.Goals as goal
 
 pub returns-in_ok-count-in-Count-clause-acts : goal.returns-in_ok-count-in-Count-clause-acts
 returns-in_ok-count-in-Count-clause-acts c =
-    λ list. subst (λ (x : Doing). Acts c.args.cell.now c.count.new.self list list c.args.pass.now
+    λ list. subst (λ (x : DueDeed). Acts c.args.cell.now c.count.new.self list list c.args.pass.now
     c.count.new.pass c.args.who (deed_in x) (Some c.counted_told.result)) (sym c.in-Count.is)
     (subst (λ (x : Told). Acts c.args.cell.now c.count.new.self list list c.args.pass.now
     c.count.new.pass c.args.who (deed_in (doing.Count c.in-Count.how)) (Some x))
@@ -21,7 +21,7 @@ returns-in_ok-count-in-Count-clause-acts c =
 
 pub returns-in_ok-write-in-Write-clause-acts : goal.returns-in_ok-write-in-Write-clause-acts
 returns-in_ok-write-in-Write-clause-acts c =
-    λ list. subst (λ (x : Doing). Acts c.args.cell.now c.write.new.self list list c.args.pass.now
+    λ list. subst (λ (x : DueDeed). Acts c.args.cell.now c.write.new.self list list c.args.pass.now
     c.write.new.pass c.args.who (deed_in x) (Some c.wrote_told.result)) (sym c.in-Write.is)
     (subst (λ (x : Told). Acts c.args.cell.now c.write.new.self list list c.args.pass.now
     c.write.new.pass c.args.who
@@ -34,7 +34,7 @@ returns-in_ok-write-in-Write-clause-acts c =
 
 pub returns-in_ok-trunc-in-Trunc-clause-acts : goal.returns-in_ok-trunc-in-Trunc-clause-acts
 returns-in_ok-trunc-in-Trunc-clause-acts c =
-    λ list. subst (λ (x : Doing). Acts c.args.cell.now c.trunc.new.self list list c.args.pass.now
+    λ list. subst (λ (x : DueDeed). Acts c.args.cell.now c.trunc.new.self list list c.args.pass.now
     c.trunc.new.pass c.args.who (deed_in x) (Some c.wrote_told-in-Trunc.result))
     (sym c.in-Trunc.is)
     (subst (λ (x : Told). Acts c.args.cell.now c.trunc.new.self list list c.args.pass.now
@@ -43,21 +43,22 @@ returns-in_ok-trunc-in-Trunc-clause-acts c =
 
 pub returns-in_ok-got-in-Read-clause-acts : goal.returns-in_ok-got-in-Read-clause-acts
 returns-in_ok-got-in-Read-clause-acts c =
-    λ list. subst (λ (x : Doing). Acts c.args.cell.now c.read.new.self list list c.args.pass.now
+    λ list. subst (λ (x : DueDeed). Acts c.args.cell.now c.read.new.self list list c.args.pass.now
     c.read.new.pass c.args.who (deed_in x)
     (Some (told.Read c.in_ok-got-in-Read.got.n c.in_ok-got-in-Read.got.digest)))
     (sym c.in-Read.is) (c.in_ok-got-in-Read.ensures.acts list)
 
 pub returns-in-SetAttr-clause-acts : goal.returns-in-SetAttr-clause-acts
 returns-in-SetAttr-clause-acts c =
-    subst (λ (x : Doing). IfOk c.set_attr.result (λ o. (list : List Entry)
+    subst (λ (x : DueDeed). IfOk c.set_attr.result (λ o. (list : List Entry)
     → Acts c.args.cell.now c.set_attr.new.cell list list c.args.pass.now c.set_attr.new.pass
     c.args.who (deed_in x) o)) (sym c.in-SetAttr.is) c.set_attr.ensures.acts
 
 pub returns-in_ok-set_meta-in-SetMeta-clause-acts :
     goal.returns-in_ok-set_meta-in-SetMeta-clause-acts
 returns-in_ok-set_meta-in-SetMeta-clause-acts c =
-    λ list. subst (λ (x : Doing). Acts c.args.cell.now c.set_meta.new.self list list c.args.pass.now
+    λ list. subst (λ (x : DueDeed). Acts c.args.cell.now c.set_meta.new.self list list
+    c.args.pass.now
     c.set_meta.new.pass c.args.who (deed_in x) c.set_told.result) (sym c.in-SetMeta.is)
     (subst (λ (x : Option Told). Acts c.args.cell.now c.set_meta.new.self list list c.args.pass.now
     c.set_meta.new.pass c.args.who (deed.SetMeta c.in-SetMeta.change) x) (sym c.set_told.ensures)
@@ -66,6 +67,6 @@ returns-in_ok-set_meta-in-SetMeta-clause-acts c =
 pub returns-in_ok-close_read-in-Close-clause-acts :
     goal.returns-in_ok-close_read-in-Close-clause-acts
 returns-in_ok-close_read-in-Close-clause-acts c =
-    λ list. subst (λ (x : Doing). Acts c.args.cell.now c.close_read.new.self list list
+    λ list. subst (λ (x : DueDeed). Acts c.args.cell.now c.close_read.new.self list list
     c.args.pass.now c.close_read.new.pass c.args.who (deed_in x) (Some told.Dropped))
     (sym c.in-Close.is) (c.in_ok-close_read-in-Close.ensures.acts list)

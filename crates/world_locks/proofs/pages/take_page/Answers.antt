@@ -2,7 +2,7 @@
 use Rattle.std.proofs.Common.{ℕ, List}
 use Rattle.inode_cell.specs.answers.Answers.{piece_told}
 use Rattle.inode_cell.specs.answers.declared.answers.Piece.{Piece}
-use Rattle.task_mind.specs.Steps.{deed_in}
+use Rattle.task_state.specs.Steps.{deed_in}
 use Rattle.world_locks.proofs.Alone.{CellLooked, has_looked, leaves_alone, may_after, told_alone}
 use Rattle.world_locks.proofs.pages.take_page.Goals as goal
 

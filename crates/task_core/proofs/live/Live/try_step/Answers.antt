@@ -4,8 +4,8 @@ use Rattle.inode_events.specs.declared.deed.Deed.TheVariants as deed
 use Rattle.inode_events.specs.declared.told.Told.TheVariants as told
 use Rattle.run_model.specs.History.{step_at}
 use Rattle.world_model.specs.Tasks.{Tasked}
-use Rattle.task_mind.specs.Steps.{deed_in}
-use Rattle.task_mind.specs.declared.step.Step.TheVariants as step
+use Rattle.task_state.specs.Steps.{deed_in}
+use Rattle.task_state.specs.declared.step.Step.TheVariants as step
 use Rattle.task_core.proofs.SharedSteps.{appends_failed, appends_told, checks_met, does_met, nothing_met, over_met, signals_met}
 use Rattle.task_core.proofs.Turns.{checks_ready, does_ready, due_is, passes_ready}
 use Rattle.task_core.proofs.live.Live.try_step.Goals as goal
@@ -15,7 +15,7 @@ lock_and_apply-requires-clause-passes g c =
     let t : Tasked =
     record {
       number = c.args.number;
-      mind = c.args.mind.now;
+      task_state = c.args.task_state.now;
       hash_state = c.args.hash_state.now;
       passes = c.args.passes.now;
     } in
@@ -26,11 +26,12 @@ lock_and_apply-requires-clause-ready g c =
     let t : Tasked =
     record {
       number = c.args.number;
-      mind = c.args.mind.now;
+      task_state = c.args.task_state.now;
       hash_state = c.args.hash_state.now;
       passes = c.args.passes.now;
     } in
-    let st = due_is (step_at t.mind.program t.mind.thought.mind) c.in-Some-Does.field-0
+    let st = due_is (step_at t.task_state.program t.task_state.position.call_state)
+    c.in-Some-Does.field-0
     (step.Does c.in-Some-Does.inode c.in-Some-Does.doing) c.in-Some-Does.field-0-is
     c.in-Some-Does.ensures in
     λ κs out. does_ready g.N.Name.consts t c.requires c.who-who.result c.checked.result
@@ -43,7 +44,7 @@ lock_and_check-requires-clause-passes g c =
     let t : Tasked =
     record {
       number = c.args.number;
-      mind = c.args.mind.now;
+      task_state = c.args.task_state.now;
       hash_state = c.args.hash_state.now;
       passes = c.args.passes.now;
     } in
@@ -54,11 +55,12 @@ lock_and_check-requires-clause-ready g c =
     let t : Tasked =
     record {
       number = c.args.number;
-      mind = c.args.mind.now;
+      task_state = c.args.task_state.now;
       hash_state = c.args.hash_state.now;
       passes = c.args.passes.now;
     } in
-    let st = due_is (step_at t.mind.program t.mind.thought.mind) c.in-Some-Checks.field-0
+    let st = due_is (step_at t.task_state.program t.task_state.position.call_state)
+    c.in-Some-Checks.field-0
     (step.Checks c.in-Some-Checks.inode c.in-Some-Checks.file c.in-Some-Checks.func
     c.in-Some-Checks.mask) c.in-Some-Checks.field-0-is
     c.in-Some-Checks.ensures in
@@ -72,7 +74,7 @@ lock_and_signal-requires-after_bounds g c =
     let t : Tasked =
     record {
       number = c.args.number;
-      mind = c.args.mind.now;
+      task_state = c.args.task_state.now;
       hash_state = c.args.hash_state.now;
       passes = c.args.passes.now;
     } in
@@ -83,7 +85,7 @@ lock_and_signal-requires-in-Some-Waits-after_bounds g c =
     let t : Tasked =
     record {
       number = c.args.number;
-      mind = c.args.mind.now;
+      task_state = c.args.task_state.now;
       hash_state = c.args.hash_state.now;
       passes = c.args.passes.now;
     } in
@@ -94,7 +96,7 @@ lock_and_append-requires-after_bounds g c =
     let t : Tasked =
     record {
       number = c.args.number;
-      mind = c.args.mind.now;
+      task_state = c.args.task_state.now;
       hash_state = c.args.hash_state.now;
       passes = c.args.passes.now;
     } in
@@ -105,7 +107,7 @@ returns-in-None g c =
     let t : Tasked =
     record {
       number = c.args.number;
-      mind = c.args.mind.now;
+      task_state = c.args.task_state.now;
       hash_state = c.args.hash_state.now;
       passes = c.args.passes.now;
     } in
@@ -116,12 +118,12 @@ returns-in-Some-Nothing g c =
     let t : Tasked =
     record {
       number = c.args.number;
-      mind = c.args.mind.now;
+      task_state = c.args.task_state.now;
       hash_state = c.args.hash_state.now;
       passes = c.args.passes.now;
     } in
-    let st = due_is (step_at t.mind.program t.mind.thought.mind) c.in-Some-Nothing.field-0
-    step.Nothing c.in-Some-Nothing.field-0-is
+    let st = due_is (step_at t.task_state.program t.task_state.position.call_state)
+    c.in-Some-Nothing.field-0 step.Nothing c.in-Some-Nothing.field-0-is
     c.in-Some-Nothing.ensures in
     nothing_met g.N.Name.consts t
     (record { place = 0; told = told.Nothing; action = None }) st refl refl refl
@@ -131,11 +133,12 @@ returns-in-Some-Does g c =
     let t : Tasked =
     record {
       number = c.args.number;
-      mind = c.args.mind.now;
+      task_state = c.args.task_state.now;
       hash_state = c.args.hash_state.now;
       passes = c.args.passes.now;
     } in
-    let st = due_is (step_at t.mind.program t.mind.thought.mind) c.in-Some-Does.field-0
+    let st = due_is (step_at t.task_state.program t.task_state.position.call_state)
+    c.in-Some-Does.field-0
     (step.Does c.in-Some-Does.inode c.in-Some-Does.doing) c.in-Some-Does.field-0-is
     c.in-Some-Does.ensures in
     does_met g.N.Name.consts t c.lock_and_apply.new.passes c.who-who.result c.who-who.ensures
@@ -149,11 +152,12 @@ returns-in-Some-Checks g c =
     let t : Tasked =
     record {
       number = c.args.number;
-      mind = c.args.mind.now;
+      task_state = c.args.task_state.now;
       hash_state = c.args.hash_state.now;
       passes = c.args.passes.now;
     } in
-    let st = due_is (step_at t.mind.program t.mind.thought.mind) c.in-Some-Checks.field-0
+    let st = due_is (step_at t.task_state.program t.task_state.position.call_state)
+    c.in-Some-Checks.field-0
     (step.Checks c.in-Some-Checks.inode c.in-Some-Checks.file c.in-Some-Checks.func
     c.in-Some-Checks.mask) c.in-Some-Checks.field-0-is
     c.in-Some-Checks.ensures in
@@ -173,12 +177,12 @@ returns-in-Some-Posts g c =
     let t : Tasked =
     record {
       number = c.args.number;
-      mind = c.args.mind.now;
+      task_state = c.args.task_state.now;
       hash_state = c.args.hash_state.now;
       passes = c.args.passes.now;
     } in
-    let st = due_is (step_at t.mind.program t.mind.thought.mind) c.in-Some-Posts.field-0
-    (step.Posts c.in-Some-Posts.sem) c.in-Some-Posts.field-0-is
+    let st = due_is (step_at t.task_state.program t.task_state.position.call_state)
+    c.in-Some-Posts.field-0 (step.Posts c.in-Some-Posts.sem) c.in-Some-Posts.field-0-is
     c.in-Some-Posts.ensures in
     signals_met g.N.Name.consts t c.lock_and_signal.new.passes c.who-who.result c.who-who.ensures
     (deed.Post c.in-Some-Posts.sem)
@@ -191,12 +195,12 @@ returns-in-Some-Waits g c =
     let t : Tasked =
     record {
       number = c.args.number;
-      mind = c.args.mind.now;
+      task_state = c.args.task_state.now;
       hash_state = c.args.hash_state.now;
       passes = c.args.passes.now;
     } in
-    let st = due_is (step_at t.mind.program t.mind.thought.mind) c.in-Some-Waits.field-0
-    (step.Waits c.in-Some-Waits.sem) c.in-Some-Waits.field-0-is
+    let st = due_is (step_at t.task_state.program t.task_state.position.call_state)
+    c.in-Some-Waits.field-0 (step.Waits c.in-Some-Waits.sem) c.in-Some-Waits.field-0-is
     c.in-Some-Waits.ensures in
     signals_met g.N.Name.consts t
     c.lock_and_signal-in-Some-Waits.new.passes c.who-who.result c.who-who.ensures
@@ -209,12 +213,12 @@ returns-in-Ok g c =
     let t : Tasked =
     record {
       number = c.args.number;
-      mind = c.args.mind.now;
+      task_state = c.args.task_state.now;
       hash_state = c.args.hash_state.now;
       passes = c.args.passes.now;
     } in
-    let st = due_is (step_at t.mind.program t.mind.thought.mind) c.in-Some-Appends.field-0
-    (step.Appends c.in-Some-Appends.rule) c.in-Some-Appends.field-0-is
+    let st = due_is (step_at t.task_state.program t.task_state.position.call_state)
+    c.in-Some-Appends.field-0 (step.Appends c.in-Some-Appends.rule) c.in-Some-Appends.field-0-is
     c.in-Some-Appends.ensures in
     appends_told g.N.Name.consts t
     c.lock_and_append.new.passes c.who-who.result c.who-who.ensures c.in-Some-Appends.rule.now
@@ -226,7 +230,7 @@ returns-in-Err g c =
     let t : Tasked =
     record {
       number = c.args.number;
-      mind = c.args.mind.now;
+      task_state = c.args.task_state.now;
       hash_state = c.args.hash_state.now;
       passes = c.args.passes.now;
     } in

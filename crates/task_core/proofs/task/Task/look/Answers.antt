@@ -14,9 +14,14 @@ look_at_inodes-requires-clause-names c =
     let before : PassesValue =
     record { inodes = p.inodes.items; sems = p.sems; book = p.book; rules = p.rules } in
     let t : Tasked =
-    record { number = s.number; mind = s.mind; hash_state = s.hash_state; passes = before } in
+    record {
+      number = s.number;
+      task_state = s.task_state;
+      hash_state = s.hash_state;
+      passes = before;
+    } in
     let is : IsTask (consts_in c.world.inside) t =
-    look_opens (world_of c.world.inside) c.args.world.now c.args.self.now s.number s.mind
+    look_opens (world_of c.world.inside) c.args.world.now c.args.self.now s.number s.task_state
     s.hash_state before s.passes c.world.view_is c.self.view_is c.passes.view_is c.requires in
     look_names w.settings w.world_inodes.items w.supers.items w.book w.sems w.rules w.tasks s.number
     before is.played.passes
@@ -46,9 +51,14 @@ returns-clause-made c =
     let before : PassesValue =
     record { inodes = p.inodes.items; sems = p.sems; book = p.book; rules = p.rules } in
     let t : Tasked =
-    record { number = s.number; mind = s.mind; hash_state = s.hash_state; passes = before } in
+    record {
+      number = s.number;
+      task_state = s.task_state;
+      hash_state = s.hash_state;
+      passes = before;
+    } in
     let is : IsTask (consts_in c.world.inside) t =
-    look_opens (world_of c.world.inside) c.args.world.now c.args.self.now s.number s.mind
+    look_opens (world_of c.world.inside) c.args.world.now c.args.self.now s.number s.task_state
     s.hash_state before s.passes c.world.view_is c.self.view_is c.passes.view_is c.requires in
     let after : PassesValue =
     record {
@@ -96,9 +106,14 @@ returns-clause-still c =
     let before : PassesValue =
     record { inodes = p.inodes.items; sems = p.sems; book = p.book; rules = p.rules } in
     let t : Tasked =
-    record { number = s.number; mind = s.mind; hash_state = s.hash_state; passes = before } in
+    record {
+      number = s.number;
+      task_state = s.task_state;
+      hash_state = s.hash_state;
+      passes = before;
+    } in
     let is : IsTask (consts_in c.world.inside) t =
-    look_opens (world_of c.world.inside) c.args.world.now c.args.self.now s.number s.mind
+    look_opens (world_of c.world.inside) c.args.world.now c.args.self.now s.number s.task_state
     s.hash_state before s.passes c.world.view_is c.self.view_is c.passes.view_is c.requires in
     let after : PassesValue =
     record {

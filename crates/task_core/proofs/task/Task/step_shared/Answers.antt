@@ -16,16 +16,16 @@ use Rattle.task_core.proofs.task.Task.step_shared.Goals.{in-Image-1, in-Held-1}
 pub returns-in_err-reserve-clause-still : goal.returns-in_err-reserve-clause-still
 returns-in_err-reserve-clause-still g c =
     let t = c.self.inside in
-    task_same g.N.Name.consts t.number t.mind c.reserve.new.self t.hash_state t.passes
+    task_same g.N.Name.consts t.number t.task_state c.reserve.new.self t.hash_state t.passes
     c.reserve.ensures.same
     (subst (λ (x : Tasked). IsTask g.N.Name.consts x) (sym c.self.view_is) c.requires)
 
 pub returns-in_err-reserve-clause-err : goal.returns-in_err-reserve-clause-err
 returns-in_err-reserve-clause-err g c =
     on_err c.from_residual.result
-    ((c.reserve.new.self.thought ≡ c.args.self.now.mind.thought)
+    ((c.reserve.new.self.position ≡ c.args.self.now.task_state.position)
     × (mines_of c.self.inside.passes ≡ mines_of c.args.self.now.passes)) (
-      c.reserve.ensures.same.thought ∙ ap (λ (x : Tasked). x.mind.thought) c.self.view_is,
+      c.reserve.ensures.same.position ∙ ap (λ (x : Tasked). x.task_state.position) c.self.view_is,
       ap (λ (x : Tasked). mines_of x.passes) c.self.view_is,
     )
 
@@ -33,7 +33,7 @@ pub try_step-requires-after_bounds : goal.try_step-requires-after_bounds
 try_step-requires-after_bounds g c =
     λ κs out.
     let t = c.self.inside in
-    task_same g.N.Name.consts t.number t.mind c.reserve.new.self t.hash_state t.passes
+    task_same g.N.Name.consts t.number t.task_state c.reserve.new.self t.hash_state t.passes
     c.reserve.ensures.same
     (subst (λ (x : Tasked). IsTask g.N.Name.consts x) (sym c.self.view_is) c.requires)
 
@@ -43,12 +43,12 @@ returns-in_err-try_step-clause-still g c =
     let t : Tasked =
     record {
       number = s.number;
-      mind = c.reserve.new.self;
+      task_state = c.reserve.new.self;
       hash_state = s.hash_state;
       passes = s.passes;
     } in
     let is : IsTask g.N.Name.consts t =
-    task_same g.N.Name.consts s.number s.mind c.reserve.new.self s.hash_state s.passes
+    task_same g.N.Name.consts s.number s.task_state c.reserve.new.self s.hash_state s.passes
     c.reserve.ensures.same
     (subst (λ (x : Tasked). IsTask g.N.Name.consts x) (sym c.self.view_is) c.requires) in
     left_still g.N.Name.consts g.N.Name.consts t c.in_err-try_step.ensures.old
@@ -58,9 +58,9 @@ returns-in_err-try_step-clause-still g c =
 pub returns-in_err-try_step-clause-err : goal.returns-in_err-try_step-clause-err
 returns-in_err-try_step-clause-err g c =
     on_err c.from_residual-in_err-try_step.result
-    ((c.reserve.new.self.thought ≡ c.args.self.now.mind.thought)
+    ((c.reserve.new.self.position ≡ c.args.self.now.task_state.position)
     × (mines_of c.try_step.new.passes ≡ mines_of c.args.self.now.passes)) (
-      c.reserve.ensures.same.thought ∙ ap (λ (x : Tasked). x.mind.thought) c.self.view_is,
+      c.reserve.ensures.same.position ∙ ap (λ (x : Tasked). x.task_state.position) c.self.view_is,
       c.in_err-try_step.ensures.idle tt ∙ ap (λ (x : Tasked). mines_of x.passes) c.self.view_is,
     )
 
@@ -70,12 +70,12 @@ returns-in-Over-clause-still g c =
     let t : Tasked =
     record {
       number = s.number;
-      mind = c.reserve.new.self;
+      task_state = c.reserve.new.self;
       hash_state = s.hash_state;
       passes = s.passes;
     } in
     let is : IsTask g.N.Name.consts t =
-    task_same g.N.Name.consts s.number s.mind c.reserve.new.self s.hash_state s.passes
+    task_same g.N.Name.consts s.number s.task_state c.reserve.new.self s.hash_state s.passes
     c.reserve.ensures.same
     (subst (λ (x : Tasked). IsTask g.N.Name.consts x) (sym c.self.view_is) c.requires) in
     over_still g.N.Name.consts g.N.Name.consts t c.try_step.ensures.old
@@ -90,7 +90,7 @@ returns-in-Over-clause-go g c =
     let t : Tasked =
     record {
       number = s.number;
-      mind = c.reserve.new.self;
+      task_state = c.reserve.new.self;
       hash_state = s.hash_state;
       passes = s.passes;
     } in
@@ -98,9 +98,9 @@ returns-in-Over-clause-go g c =
     record {
       number = ap (λ (x : Tasked). x.number) c.self.view_is;
       program = c.reserve.ensures.same.program
-          ∙ ap (λ (x : Tasked). x.mind.program) c.self.view_is;
-      thought = c.reserve.ensures.same.thought
-          ∙ ap (λ (x : Tasked). x.mind.thought) c.self.view_is;
+          ∙ ap (λ (x : Tasked). x.task_state.program) c.self.view_is;
+      position = c.reserve.ensures.same.position
+          ∙ ap (λ (x : Tasked). x.task_state.position) c.self.view_is;
       passes = ap (λ (x : Tasked). x.passes) c.self.view_is;
     } in
     let t2 : Tasked = task_left t c.try_step.new.passes c.try_step.new.hash_state in
@@ -115,7 +115,7 @@ returns-in-Over-clause-idle g c =
     let t : Tasked =
     record {
       number = s.number;
-      mind = c.reserve.new.self;
+      task_state = c.reserve.new.self;
       hash_state = s.hash_state;
       passes = s.passes;
     } in
@@ -123,9 +123,9 @@ returns-in-Over-clause-idle g c =
     record {
       number = ap (λ (x : Tasked). x.number) c.self.view_is;
       program = c.reserve.ensures.same.program
-          ∙ ap (λ (x : Tasked). x.mind.program) c.self.view_is;
-      thought = c.reserve.ensures.same.thought
-          ∙ ap (λ (x : Tasked). x.mind.thought) c.self.view_is;
+          ∙ ap (λ (x : Tasked). x.task_state.program) c.self.view_is;
+      position = c.reserve.ensures.same.position
+          ∙ ap (λ (x : Tasked). x.task_state.position) c.self.view_is;
       passes = ap (λ (x : Tasked). x.passes) c.self.view_is;
     } in
     let t2 : Tasked = task_left t c.try_step.new.passes c.try_step.new.hash_state in
@@ -139,12 +139,12 @@ returns-in-Blocked-clause-still g c =
     let t : Tasked =
     record {
       number = s.number;
-      mind = c.reserve.new.self;
+      task_state = c.reserve.new.self;
       hash_state = s.hash_state;
       passes = s.passes;
     } in
     let is : IsTask g.N.Name.consts t =
-    task_same g.N.Name.consts s.number s.mind c.reserve.new.self s.hash_state s.passes
+    task_same g.N.Name.consts s.number s.task_state c.reserve.new.self s.hash_state s.passes
     c.reserve.ensures.same
     (subst (λ (x : Tasked). IsTask g.N.Name.consts x) (sym c.self.view_is) c.requires) in
     blocked_still g.N.Name.consts g.N.Name.consts t c.try_step.ensures.old
@@ -159,7 +159,7 @@ returns-in-Blocked-clause-go g c =
     let t : Tasked =
     record {
       number = s.number;
-      mind = c.reserve.new.self;
+      task_state = c.reserve.new.self;
       hash_state = s.hash_state;
       passes = s.passes;
     } in
@@ -167,9 +167,9 @@ returns-in-Blocked-clause-go g c =
     record {
       number = ap (λ (x : Tasked). x.number) c.self.view_is;
       program = c.reserve.ensures.same.program
-          ∙ ap (λ (x : Tasked). x.mind.program) c.self.view_is;
-      thought = c.reserve.ensures.same.thought
-          ∙ ap (λ (x : Tasked). x.mind.thought) c.self.view_is;
+          ∙ ap (λ (x : Tasked). x.task_state.program) c.self.view_is;
+      position = c.reserve.ensures.same.position
+          ∙ ap (λ (x : Tasked). x.task_state.position) c.self.view_is;
       passes = ap (λ (x : Tasked). x.passes) c.self.view_is;
     } in
     let t2 : Tasked = task_left t c.try_step.new.passes c.try_step.new.hash_state in
@@ -184,7 +184,7 @@ returns-in-Blocked-clause-blocked g c =
     let t : Tasked =
     record {
       number = s.number;
-      mind = c.reserve.new.self;
+      task_state = c.reserve.new.self;
       hash_state = s.hash_state;
       passes = s.passes;
     } in
@@ -192,9 +192,9 @@ returns-in-Blocked-clause-blocked g c =
     record {
       number = ap (λ (x : Tasked). x.number) c.self.view_is;
       program = c.reserve.ensures.same.program
-          ∙ ap (λ (x : Tasked). x.mind.program) c.self.view_is;
-      thought = c.reserve.ensures.same.thought
-          ∙ ap (λ (x : Tasked). x.mind.thought) c.self.view_is;
+          ∙ ap (λ (x : Tasked). x.task_state.program) c.self.view_is;
+      position = c.reserve.ensures.same.position
+          ∙ ap (λ (x : Tasked). x.task_state.position) c.self.view_is;
       passes = ap (λ (x : Tasked). x.passes) c.self.view_is;
     } in
     λ b. blocked_with g.N.Name.consts c.args.self.now t
@@ -208,7 +208,7 @@ returns-in-Blocked-clause-idle g c =
     let t : Tasked =
     record {
       number = s.number;
-      mind = c.reserve.new.self;
+      task_state = c.reserve.new.self;
       hash_state = s.hash_state;
       passes = s.passes;
     } in
@@ -216,9 +216,9 @@ returns-in-Blocked-clause-idle g c =
     record {
       number = ap (λ (x : Tasked). x.number) c.self.view_is;
       program = c.reserve.ensures.same.program
-          ∙ ap (λ (x : Tasked). x.mind.program) c.self.view_is;
-      thought = c.reserve.ensures.same.thought
-          ∙ ap (λ (x : Tasked). x.mind.thought) c.self.view_is;
+          ∙ ap (λ (x : Tasked). x.task_state.program) c.self.view_is;
+      position = c.reserve.ensures.same.position
+          ∙ ap (λ (x : Tasked). x.task_state.position) c.self.view_is;
       passes = ap (λ (x : Tasked). x.passes) c.self.view_is;
     } in
     let t2 : Tasked = task_left t c.try_step.new.passes c.try_step.new.hash_state in
@@ -233,23 +233,24 @@ returns-in-Told-clause-still g c =
     let t : Tasked =
     record {
       number = s.number;
-      mind = c.reserve.new.self;
+      task_state = c.reserve.new.self;
       hash_state = s.hash_state;
       passes = s.passes;
     } in
     let is : IsTask g.N.Name.consts t =
-    task_same g.N.Name.consts s.number s.mind c.reserve.new.self s.hash_state s.passes
+    task_same g.N.Name.consts s.number s.task_state c.reserve.new.self s.hash_state s.passes
     c.reserve.ensures.same
     (subst (λ (x : Tasked). IsTask g.N.Name.consts x) (sym c.self.view_is) c.requires) in
     let same : c.match-answered.self
-    ≡ task_after t c.hear.new.self c.try_step.new.passes c.try_step.new.hash_state =
+    ≡ task_after t c.resume.new.self c.try_step.new.passes c.try_step.new.hash_state =
     elim c.match-answered.branch [ in-Image-1 w ↦ w.self-is | in-Held-1 w ↦ w.self-is ] in
     moved_still g.N.Name.consts g.N.Name.consts t c.try_step.ensures.old
     (state_seen c.try_step.new.passes) c.try_step.new.passes c.try_step.new.hash_state refl is
     c.try_step.result c.in_ok-try_step.field-0 c.match-answered.self c.in-Told.answered
-    c.mode.result (option_copied c.as_ref.result) c.hear.new.self
+    c.mode.result (option_copied c.as_ref.result) c.resume.new.self
     c.in_ok-try_step.was c.in-Told.is c.try_step.ensures.reaches same c.mode.ensures
-    c.as_ref.ensures.value c.hear.ensures.program c.hear.ensures.thought c.hear.ensures.checked
+    c.as_ref.ensures.value c.resume.ensures.program c.resume.ensures.position
+    c.resume.ensures.checked
 
 pub returns-in-Told-clause-go : goal.returns-in-Told-clause-go
 returns-in-Told-clause-go g c =
@@ -257,7 +258,7 @@ returns-in-Told-clause-go g c =
     let t : Tasked =
     record {
       number = s.number;
-      mind = c.reserve.new.self;
+      task_state = c.reserve.new.self;
       hash_state = s.hash_state;
       passes = s.passes;
     } in
@@ -265,17 +266,17 @@ returns-in-Told-clause-go g c =
     record {
       number = ap (λ (x : Tasked). x.number) c.self.view_is;
       program = c.reserve.ensures.same.program
-          ∙ ap (λ (x : Tasked). x.mind.program) c.self.view_is;
-      thought = c.reserve.ensures.same.thought
-          ∙ ap (λ (x : Tasked). x.mind.thought) c.self.view_is;
+          ∙ ap (λ (x : Tasked). x.task_state.program) c.self.view_is;
+      position = c.reserve.ensures.same.position
+          ∙ ap (λ (x : Tasked). x.task_state.position) c.self.view_is;
       passes = ap (λ (x : Tasked). x.passes) c.self.view_is;
     } in
     let same : c.match-answered.self
-    ≡ task_after t c.hear.new.self c.try_step.new.passes c.try_step.new.hash_state =
+    ≡ task_after t c.resume.new.self c.try_step.new.passes c.try_step.new.hash_state =
     elim c.match-answered.branch [ in-Image-1 w ↦ w.self-is | in-Held-1 w ↦ w.self-is ] in
     steps_with g.N.Name.consts c.args.self.now t c.match-answered.self room turns.Moved
     (moved_steps g.N.Name.consts t c.match-answered.self c.try_step.new.passes
     c.try_step.new.hash_state c.try_step.result c.in_ok-try_step.field-0 c.in-Told.answered
     c.mode.result (option_copied c.as_ref.result)
-    c.hear.new.self c.in_ok-try_step.was c.in-Told.is c.try_step.ensures same c.mode.ensures
-    c.as_ref.ensures.value c.hear.ensures.thought)
+    c.resume.new.self c.in_ok-try_step.was c.in-Told.is c.try_step.ensures same c.mode.ensures
+    c.as_ref.ensures.value c.resume.ensures.position)

@@ -19,17 +19,17 @@ present (Some x) w h = refl
 pub returns-then-is_over : goal.returns-then-is_over
 returns-then-is_over c =
     let s = c.self.inside in
-    let m = s.mind in
-    absent (call_at m.program m.thought.mind)
-    (λ (x : Call). who_at s.number m.program m.thought.mind)
+    let m = s.task_state in
+    absent (call_at m.program m.position.call_state)
+    (λ (x : Call). who_at s.number m.program m.position.call_state)
     (sym c.is_over.ensures ∙ c.if-is_over.true)
     ∙ ap who_of c.self.view_is
 
 pub returns : goal.returns
 returns c =
     let s = c.self.inside in
-    let m = s.mind in
+    let m = s.task_state in
     ap Some c.who.ensures
-    ∙ present (call_at m.program m.thought.mind) (who_at s.number m.program m.thought.mind)
-    (sym c.is_over.ensures ∙ c.if-is_over.false)
+    ∙ present (call_at m.program m.position.call_state)
+    (who_at s.number m.program m.position.call_state) (sym c.is_over.ensures ∙ c.if-is_over.false)
     ∙ ap who_of c.self.view_is

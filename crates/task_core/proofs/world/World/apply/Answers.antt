@@ -1,7 +1,7 @@
 -- A deed on the inode of the number, which is there.
 use Rattle.std.proofs.Common.{◌<◌, length, refl, arith}
 use Rattle.task_core.proofs.Opens.{done_event, done_parts, done_said, done_spares, done_view, open_book, open_found, open_ready}
-use Rattle.task_mind.specs.Steps.{deed_in}
+use Rattle.task_state.specs.Steps.{deed_in}
 use Rattle.world_locks.proofs.about_acts.Calls.{does_count}
 use Rattle.world_locks.specs.acts.Acting.{told_in}
 use Rattle.task_core.proofs.world.World.apply.Goals as goal

@@ -5,12 +5,12 @@ use Rattle.std.proofs.lemmas.List.{length-map}
 use Rattle.run_model.specs.Turns.{State}
 use Rattle.world_model.specs.WorldConsts.{WorldConsts}
 use Rattle.world_model.specs.Runs.{AreTasks, program_of}
-use Rattle.task_mind.specs.Value.{TaskValue}
+use Rattle.task_state.specs.Value.{TaskValue}
 use Rattle.world_model.specs.WorldRuns.{moment_in, scene_in}
 use Rattle.world_close.proofs.Finishing.{finished_ends, finished_shown}
 use Rattle.world_close.specs.Finished.{HaveMade}
 use Rattle.world_close.proofs.Ending.{ended_same}
-use Rattle.world_close.specs.Settled.{mind_of}
+use Rattle.world_close.specs.Settled.{task_state_of}
 use Rattle.task_core.proofs.world.World.close.Goals as goal
 
 -- the requires, in order: consts, count, tasks, made
@@ -19,9 +19,9 @@ end-requires c =
     let e = c.look_all.ensures in (
       refl,
       (
-        sym (length-map c.look_all.new.tasks.items mind_of)
+        sym (length-map c.look_all.new.tasks.items task_state_of)
             ∙ ap (λ (l : List TaskValue). length l) e.same
-            ∙ length-map c.args.tasks.items mind_of
+            ∙ length-map c.args.tasks.items task_state_of
             ∙ c.requires.count
             ∙ ap (λ (f : WorldConsts). f.tasks) (sym e.consts),
         (

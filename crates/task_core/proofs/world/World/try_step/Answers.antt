@@ -4,8 +4,8 @@ use Rattle.inode_events.specs.declared.deed.Deed.TheVariants as deed
 use Rattle.inode_events.specs.declared.told.Told.TheVariants as told
 use Rattle.run_model.specs.History.{step_at}
 use Rattle.world_model.specs.Tasks.{Tasked}
-use Rattle.task_mind.specs.Steps.{deed_in}
-use Rattle.task_mind.specs.declared.step.Step.TheVariants as step
+use Rattle.task_state.specs.Steps.{deed_in}
+use Rattle.task_state.specs.declared.step.Step.TheVariants as step
 use Rattle.world_locks.proofs.about_acts.Sharing.{nothing_tells}
 use Rattle.task_core.proofs.Turns.{appends_fail, appends_turn, check_turn, checks_ready, does_ready, does_turn, due_is, signals_turn}
 use Rattle.task_core.proofs.world.World.try_step.Goals as goal
@@ -15,11 +15,12 @@ apply-requires-clause-ready c =
     let t : Tasked =
     record {
       number = c.args.number;
-      mind = c.args.mind.now;
+      task_state = c.args.task_state.now;
       hash_state = c.args.hash_state.now;
       passes = c.args.passes.now;
     } in
-    let st = due_is (step_at t.mind.program t.mind.thought.mind) c.in-Some-Does.field-0
+    let st = due_is (step_at t.task_state.program t.task_state.position.call_state)
+    c.in-Some-Does.field-0
     (step.Does c.in-Some-Does.inode c.in-Some-Does.doing) c.in-Some-Does.field-0-is
     c.in-Some-Does.ensures in
     does_ready c.args.self.now.consts t c.requires c.who-who.result c.checked.result
@@ -32,11 +33,12 @@ check-requires-clause-ready c =
     let t : Tasked =
     record {
       number = c.args.number;
-      mind = c.args.mind.now;
+      task_state = c.args.task_state.now;
       hash_state = c.args.hash_state.now;
       passes = c.args.passes.now;
     } in
-    let st = due_is (step_at t.mind.program t.mind.thought.mind) c.in-Some-Checks.field-0
+    let st = due_is (step_at t.task_state.program t.task_state.position.call_state)
+    c.in-Some-Checks.field-0
     (step.Checks c.in-Some-Checks.inode c.in-Some-Checks.file c.in-Some-Checks.func
     c.in-Some-Checks.mask) c.in-Some-Checks.field-0-is c.in-Some-Checks.ensures in
     checks_ready c.args.self.now.consts t c.requires c.who-who.result c.checked.result
@@ -49,12 +51,12 @@ returns-in-Some-Nothing-clause-reaches c =
     let t : Tasked =
     record {
       number = c.args.number;
-      mind = c.args.mind.now;
+      task_state = c.args.task_state.now;
       hash_state = c.args.hash_state.now;
       passes = c.args.passes.now;
     } in
-    let st = due_is (step_at t.mind.program t.mind.thought.mind) c.in-Some-Nothing.field-0
-    step.Nothing c.in-Some-Nothing.field-0-is c.in-Some-Nothing.ensures in
+    let st = due_is (step_at t.task_state.program t.task_state.position.call_state)
+    c.in-Some-Nothing.field-0 step.Nothing c.in-Some-Nothing.field-0-is c.in-Some-Nothing.ensures in
     nothing_tells c.args.self.now.consts t c.args.self.now.state
     (record { place = 0; told = told.Nothing; action = None }) st refl refl refl
 
@@ -63,11 +65,12 @@ returns-in-Some-Does-clause-reaches c =
     let t : Tasked =
     record {
       number = c.args.number;
-      mind = c.args.mind.now;
+      task_state = c.args.task_state.now;
       hash_state = c.args.hash_state.now;
       passes = c.args.passes.now;
     } in
-    let st = due_is (step_at t.mind.program t.mind.thought.mind) c.in-Some-Does.field-0
+    let st = due_is (step_at t.task_state.program t.task_state.position.call_state)
+    c.in-Some-Does.field-0
     (step.Does c.in-Some-Does.inode c.in-Some-Does.doing) c.in-Some-Does.field-0-is
     c.in-Some-Does.ensures in
     does_turn c.args.self.now.consts t c.args.self.now.state c.apply.new.self.state
@@ -81,11 +84,12 @@ returns-in-Some-Checks-clause-reaches c =
     let t : Tasked =
     record {
       number = c.args.number;
-      mind = c.args.mind.now;
+      task_state = c.args.task_state.now;
       hash_state = c.args.hash_state.now;
       passes = c.args.passes.now;
     } in
-    let st = due_is (step_at t.mind.program t.mind.thought.mind) c.in-Some-Checks.field-0
+    let st = due_is (step_at t.task_state.program t.task_state.position.call_state)
+    c.in-Some-Checks.field-0
     (step.Checks c.in-Some-Checks.inode c.in-Some-Checks.file c.in-Some-Checks.func
     c.in-Some-Checks.mask) c.in-Some-Checks.field-0-is c.in-Some-Checks.ensures in
     check_turn c.args.self.now.consts t c.args.self.now.state c.check.new.self.state
@@ -104,11 +108,12 @@ returns-in-Some-Posts-clause-reaches c =
     let t : Tasked =
     record {
       number = c.args.number;
-      mind = c.args.mind.now;
+      task_state = c.args.task_state.now;
       hash_state = c.args.hash_state.now;
       passes = c.args.passes.now;
     } in
-    let st = due_is (step_at t.mind.program t.mind.thought.mind) c.in-Some-Posts.field-0
+    let st = due_is (step_at t.task_state.program t.task_state.position.call_state)
+    c.in-Some-Posts.field-0
     (step.Posts c.in-Some-Posts.sem) c.in-Some-Posts.field-0-is c.in-Some-Posts.ensures in
     signals_turn c.args.self.now.consts t c.args.self.now.state c.signal.new.self.state
     c.signal.new.passes c.who-who.result c.who-who.ensures (deed.Post c.in-Some-Posts.sem)
@@ -121,11 +126,12 @@ returns-in-Some-Waits-clause-reaches c =
     let t : Tasked =
     record {
       number = c.args.number;
-      mind = c.args.mind.now;
+      task_state = c.args.task_state.now;
       hash_state = c.args.hash_state.now;
       passes = c.args.passes.now;
     } in
-    let st = due_is (step_at t.mind.program t.mind.thought.mind) c.in-Some-Waits.field-0
+    let st = due_is (step_at t.task_state.program t.task_state.position.call_state)
+    c.in-Some-Waits.field-0
     (step.Waits c.in-Some-Waits.sem) c.in-Some-Waits.field-0-is c.in-Some-Waits.ensures in
     signals_turn c.args.self.now.consts t c.args.self.now.state
     c.signal-in-Some-Waits.new.self.state
@@ -139,11 +145,12 @@ returns-in-Ok-clause-reaches c =
     let t : Tasked =
     record {
       number = c.args.number;
-      mind = c.args.mind.now;
+      task_state = c.args.task_state.now;
       hash_state = c.args.hash_state.now;
       passes = c.args.passes.now;
     } in
-    let st = due_is (step_at t.mind.program t.mind.thought.mind) c.in-Some-Appends.field-0
+    let st = due_is (step_at t.task_state.program t.task_state.position.call_state)
+    c.in-Some-Appends.field-0
     (step.Appends c.in-Some-Appends.rule) c.in-Some-Appends.field-0-is c.in-Some-Appends.ensures in
     appends_turn c.args.self.now.consts t c.args.self.now.state c.append.new.self.state
     c.append.new.passes c.who-who.result c.who-who.ensures c.in-Some-Appends.rule.now
@@ -155,7 +162,7 @@ returns-in-Err-clause-reaches c =
     let t : Tasked =
     record {
       number = c.args.number;
-      mind = c.args.mind.now;
+      task_state = c.args.task_state.now;
       hash_state = c.args.hash_state.now;
       passes = c.args.passes.now;
     } in

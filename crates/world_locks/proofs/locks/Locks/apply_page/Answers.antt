@@ -2,7 +2,7 @@
 -- task last saw it.
 use Rattle.std.proofs.Common.{◌≡◌, ◌∙◌, Ok, Err, Some, None, ap}
 use Rattle.std.proofs.lemmas.Result.{err_from_is_err_and}
-use Rattle.task_mind.specs.Steps.{deed_in}
+use Rattle.task_state.specs.Steps.{deed_in}
 use Rattle.world_locks.proofs.Opening.{deed_opened, look_of, may_of, pass_of, ready_of}
 use Rattle.world_locks.proofs.Paging.{page_failed, page_met}
 use Rattle.world_locks.proofs.WorldInodes.{its_ready}

@@ -1,6 +1,6 @@
 -- A deed on the inode whose lock is held.
 use Rattle.std.proofs.Common.{◌≡◌, ◌∙◌, ap}
-use Rattle.task_mind.specs.Steps.{deed_in}
+use Rattle.task_state.specs.Steps.{deed_in}
 use Rattle.world_locks.proofs.Opening.{deed_opened, pass_of, ready_of}
 use Rattle.world_locks.specs.Tagged.{NumberedWorldInode}
 use Rattle.world_locks.proofs.locks.Locks.apply_with_list.Goals as goal

@@ -1,7 +1,7 @@
 -- A deed on the inode whose lock alone is held, as one that met the measurement list as its task
 -- last saw it.
 use Rattle.std.proofs.Common.{◌≡◌, ◌∙◌, ap}
-use Rattle.task_mind.specs.Steps.{deed_in}
+use Rattle.task_state.specs.Steps.{deed_in}
 use Rattle.world_locks.proofs.Opening.{deed_opened, pass_of, ready_of}
 use Rattle.world_locks.specs.Tagged.{NumberedWorldInode}
 use Rattle.world_locks.proofs.locks.Locks.apply_without_list.Goals as goal

@@ -1,5 +1,5 @@
 -- A deed on the inode under its lock.
-use Rattle.task_mind.specs.Steps.{deed_in}
+use Rattle.task_state.specs.Steps.{deed_in}
 use Rattle.task_steps.proofs.Calls.{does_count}
 use Rattle.task_steps.specs.Acting.{told_in}
 use Rattle.world_locks.proofs.Lists.{book_still}

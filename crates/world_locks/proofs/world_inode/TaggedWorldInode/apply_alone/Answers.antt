@@ -1,6 +1,6 @@
 -- A deed on the inode under its lock, from the view of a pass of the measurement list.
 use Rattle.std.proofs.Common.{[]}
-use Rattle.task_mind.specs.Steps.{deed_in}
+use Rattle.task_state.specs.Steps.{deed_in}
 use Rattle.task_steps.proofs.Calls.{does_count}
 use Rattle.task_steps.specs.Acting.{told_in}
 use Rattle.world_locks.proofs.Paging.{alone_met}

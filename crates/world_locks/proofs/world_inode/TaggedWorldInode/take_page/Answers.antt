@@ -6,7 +6,7 @@ use Rattle.inode_cell.specs.answers.Answers.{piece_told}
 use Rattle.inode_cell.specs.answers.declared.answers.Piece.{Piece}
 use Rattle.task_steps.specs.Leaving.{told_by}
 use Rattle.world_close.specs.worlds.World.{IsWorldInode, WorldInodeValue}
-use Rattle.task_mind.specs.Steps.{deed_in}
+use Rattle.task_state.specs.Steps.{deed_in}
 use Rattle.task_steps.proofs.Calls.{does_count}
 use Rattle.world_locks.proofs.Paging.{may_alone, page_is_met}
 use Rattle.world_locks.proofs.WorldInodes.{world_inode_left, world_inode_opened}
