@@ -2,7 +2,7 @@
 
 use script_text::{ScriptErr, parse};
 use std::alloc::{AllocError as OutOfMemory, Global};
-use std::test::Fail;
+use std::process::Abort;
 
 // The front of a file's content.
 const FILE: &str = "imakern 1\n\
@@ -16,19 +16,28 @@ const TASK: &str = "imakern 1\n\
     task uid=0 euid=0 gid=0 egid=0\n";
 
 // The front, what stands before the part, the part, how often it stands, what stands after it, and
-// what is answered: `ok`, or the first bad line with its cause.
-const ROWS: [(&str, &str, &str, usize, &str, &str); 13] = [
-    (FILE, "txt:", "x", 262_144, "\n", "line 4: no-end"),
-    (FILE, "txt:", "x", 262_145, "\n", "line 3: bad-field"),
-    (FILE, "hex:", "aB", 262_144, "\n", "line 4: no-end"),
-    (FILE, "hex:", "aB", 262_145, "\n", "line 3: bad-field"),
+// the first bad line with the word of its cause, or none if the text is a script.
+type Row = (
+    &'static str,
+    &'static str,
+    &'static str,
+    usize,
+    &'static str,
+    Option<(u32, &'static str)>,
+);
+
+const ROWS: [Row; 13] = [
+    (FILE, "txt:", "x", 262_144, "\n", Some((4, "no-end"))),
+    (FILE, "txt:", "x", 262_145, "\n", Some((3, "bad-field"))),
+    (FILE, "hex:", "aB", 262_144, "\n", Some((4, "no-end"))),
+    (FILE, "hex:", "aB", 262_145, "\n", Some((3, "bad-field"))),
     (
         TASK,
         "write 0 0 hex:",
         "00",
         262_144,
         "\n",
-        "line 6: no-end",
+        Some((6, "no-end")),
     ),
     (
         TASK,
@@ -36,68 +45,83 @@ const ROWS: [(&str, &str, &str, usize, &str, &str); 13] = [
         "00",
         262_145,
         "\n",
-        "line 5: bad-field",
+        Some((5, "bad-field")),
     ),
-    (TASK, "", "close 0\n", 32_768, "", "line 32773: no-end"),
-    (TASK, "", "close 0\n", 32_769, "", "line 32773: too-many"),
+    (TASK, "", "close 0\n", 32_768, "", Some((32773, "no-end"))),
+    (TASK, "", "close 0\n", 32_769, "", Some((32773, "too-many"))),
     (
         TASK,
         "",
         "close 0\n",
         32_768,
         "task uid=0 euid=0 gid=0 egid=0\nclose 0\n",
-        "line 32774: too-many",
+        Some((32774, "too-many")),
     ),
-    (TASK, "schedule", " 0", 1_048_576, "\n", "ok"),
-    (TASK, "schedule", " 0", 1_048_577, "\n", "line 5: too-many"),
-    (TASK, "schedule", " 0", 1_048_576, " 1\n", "line 5: unknown"),
+    (TASK, "schedule", " 0", 1_048_576, "\n", None),
+    (
+        TASK,
+        "schedule",
+        " 0",
+        1_048_577,
+        "\n",
+        Some((5, "too-many")),
+    ),
+    (
+        TASK,
+        "schedule",
+        " 0",
+        1_048_576,
+        " 1\n",
+        Some((5, "unknown")),
+    ),
     (
         TASK,
         "schedule",
         " 0",
         1_048_576,
         " x\n",
-        "line 5: bad-field",
+        Some((5, "bad-field")),
     ),
 ];
 
-fn answer(alloc: Global, text: &[u8]) -> Result<String, Fail> {
-    if text.len() > 1 << 30 {
-        return Ok(format!(in alloc; "too long")?);
+// The first bad line of the text with the word of its cause, or none if the text is a script.
+fn fault_of(
+    rt: &impl Abort,
+    alloc: Global,
+    text: &[u8],
+) -> Result<Option<(u32, &'static str)>, OutOfMemory> {
+    assert!(rt; text.len() <= 1 << 30);
+    match parse(alloc, text) {
+        Ok(_) => Ok(None),
+        Err(ScriptErr::Refused(fault)) => Ok(Some((fault.line, fault.cause.word()))),
+        Err(ScriptErr::OutOfMemory) => Err(OutOfMemory),
     }
-    Ok(match parse(alloc, text) {
-        Ok(_) => format!(in alloc; "ok")?,
-        Err(ScriptErr::Refused(fault)) => {
-            format!(in alloc; "line {}: {}", fault.line, fault.cause)?
-        }
-        Err(ScriptErr::OutOfMemory) => format!(in alloc; "out of memory")?,
-    })
 }
 
-fn stretched(
-    alloc: Global,
-    front: &str,
-    before: &str,
-    part: &str,
-    times: usize,
-    after: &str,
-) -> Result<String, OutOfMemory> {
-    let mut text = String::from_str(alloc, front)?;
+// Appends the text of the row.
+fn push_row(text: &mut String, row: &Row) -> Result<(), OutOfMemory> {
+    let (front, before, part, times, after, _) = *row;
+    text.push_str(front)?;
     text.push_str(before)?;
     for _ in 0..times {
         text.push_str(part)?;
     }
-    text.push_str(after)?;
-    Ok(text)
+    text.push_str(after)
+}
+
+// Reads the text of the row.
+fn read_row(rt: &impl Abort, alloc: Global, row: &Row) -> Result<(), OutOfMemory> {
+    let mut text = String::new(alloc);
+    push_row(&mut text, row)?;
+    let got = fault_of(rt, alloc, text.as_bytes())?;
+    assert!(rt; got == row.5, "at {} {} times", row.1, row.3);
+    Ok(())
 }
 
 #[test]
-fn the_longest_scripts_and_longer_ones(rt: HostRuntime) -> Result<(), Fail> {
-    let alloc = rt.alloc();
-    for (front, before, part, times, after, want) in ROWS {
-        let text = stretched(alloc, front, before, part, times, after)?;
-        let got = answer(alloc, text.as_bytes())?;
-        assert_eq!(&rt; got.as_str(), want, "at {before} {times} times");
+fn the_longest_scripts_and_longer_ones(rt: HostRuntime) -> Result<(), OutOfMemory> {
+    for row in &ROWS {
+        read_row(&rt, rt.alloc(), row)?;
     }
     Ok(())
 }

@@ -4,7 +4,7 @@
 use load_gen::prints::print;
 use script_text::parse;
 use std::alloc::{AllocError as OutOfMemory, Global};
-use std::test::Fail;
+use std::process::Abort;
 
 const ROWS: [(&str, &str); 3] = [
     (
@@ -55,28 +55,33 @@ const ROWS: [(&str, &str); 3] = [
     ),
 ];
 
-// The canonical text of the script that a text has, or `None` if it isn't a script.
-fn printed(alloc: Global, text: &str) -> Result<Option<Vec<u8>>, OutOfMemory> {
-    if text.len() > 1 << 20 {
-        return Ok(None);
-    }
-    match parse(alloc, text.as_bytes()) {
-        Ok(script) => Ok(Some(print(alloc, &script)?)),
-        Err(_) => Ok(None),
-    }
+// Whether the text is a script whose canonical text is this.
+fn is_printed(
+    rt: &impl Abort,
+    alloc: Global,
+    text: &str,
+    canonical: &str,
+) -> Result<bool, OutOfMemory> {
+    assert!(rt; text.len() <= 1 << 20);
+    let Ok(script) = parse(alloc, text.as_bytes()) else {
+        return Ok(false);
+    };
+    let got = print(alloc, &script)?;
+    Ok(got.as_slice() == canonical.as_bytes())
+}
+
+// Prints the script that the text has.
+fn prints(rt: &impl Abort, alloc: Global, text: &str, canonical: &str) -> Result<(), OutOfMemory> {
+    let well = is_printed(rt, alloc, text, canonical)?;
+    assert!(rt; well, "at {text}");
+    Ok(())
 }
 
 #[test]
-fn scripts_are_printed(rt: HostRuntime) -> Result<(), Fail> {
-    let alloc = rt.alloc();
+fn scripts_are_printed(rt: HostRuntime) -> Result<(), OutOfMemory> {
     for (text, canonical) in &ROWS {
-        for source in [text, canonical] {
-            let got = printed(alloc, source)?;
-            assert!(rt;
-                got.is_some_and(|t| t.as_slice() == canonical.as_bytes()),
-                "at {source}"
-            );
-        }
+        prints(&rt, rt.alloc(), text, canonical)?;
+        prints(&rt, rt.alloc(), canonical, canonical)?;
     }
     Ok(())
 }
