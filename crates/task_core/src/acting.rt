@@ -23,18 +23,18 @@ impl World {
         i: u32,
         passes: &mut Passes,
         actor: &Actor<'_>,
-        doing: DueDeed<'_>,
+        due: DueDeed<'_>,
         hash_state: &mut HashState,
     ) -> Result<Option<StepResult>, OutOfMemory>
         requires passes { ArePassesOf self.old.consts actor.now.who.task passes.old }
         requires ready { ReadyAt self.old.consts i passes.old.inodes actor.now.who.task
-            hash_state.old actor.now.action actor.now.slot (deed_in doing) }
+            hash_state.old actor.now.action actor.now.slot (deed_in due) }
         ensures consts { self.new.consts ≡ self.old.consts }
         ensures event { EventIn self.old.consts i (slice_get self.old.consts.each_inode i)
             actor.now.who
-            (deed_in doing.entry) self.old.state self.new.state passes.old passes.new hash_state.old
+            (deed_in due.entry) self.old.state self.new.state passes.old passes.new hash_state.old
             hash_state.new (told_in result) }
-        ensures told { IfOk result (λ o. IsSaid self.old.consts i (deed_in doing.entry)
+        ensures told { IfOk result (λ o. IsSaid self.old.consts i (deed_in due.entry)
             self.old.state o) }
     {
         if i as usize >= self.parts.world_inodes.len() {
@@ -46,7 +46,7 @@ impl World {
             &mut self.parts.book,
             &mut passes.book,
             actor,
-            doing,
+            due,
             hash_state,
         )
     }

@@ -58,8 +58,8 @@ impl<N: Name> Live<N> {
                 told: Told::Nothing,
                 action: None,
             })),
-            Some(Step::Does { inode, doing }) => {
-                turn_result_of(locks.lock_and_apply(rt, inode, passes, &actor, doing, hash_state))
+            Some(Step::Does { inode, due }) => {
+                turn_result_of(locks.lock_and_apply(rt, inode, passes, &actor, due, hash_state))
             }
             Some(
                 Step::Checks {

@@ -11,8 +11,7 @@ use std::marker::Model;
 use task_state::TaskState;
 use world_model::{HashState, Passes};
 
-/// A task. Contracts see its number, its knowledge of its own calls, what it has hashed, and its
-/// passes.
+/// A task. Contracts see its number, its state, what it has hashed, and its passes.
 #[derive(Drop)]
 pub struct Task {
     pub(crate) number: u32,

@@ -67,8 +67,8 @@ impl World {
                 told: Told::Nothing,
                 action: None,
             })),
-            Some(Step::Does { inode, doing }) => {
-                turn_result_of(self.apply(inode, passes, &actor, doing, hash_state))
+            Some(Step::Does { inode, due }) => {
+                turn_result_of(self.apply(inode, passes, &actor, due, hash_state))
             }
             Some(
                 Step::Checks {

@@ -1,4 +1,4 @@
--- The contract view of a task's knowledge.
+-- The contract view of a task's state.
 use Rattle.std.specs.Prelude.{◌≡◌, ℕ, Bool, Option, None, Some, is_none, option_map}
 use Rattle.run_model.specs.policy.ActionValue.{ActionValue}
 use Rattle.run_model.specs.steps.CallState as call_states

@@ -24,7 +24,7 @@ use run_model::steps::{Ask, Call, Handle, Name, Reply};
 use std::alloc::{AllocError as OutOfMemory, Global};
 use std::marker::Model;
 
-/// A task's knowledge of itself. Contracts see its program, its position and replies, the action of
+/// A task's state. Contracts see its program, its position and replies, the action of
 /// its last check, and the number of further steps for which it has room.
 #[derive(Drop)]
 pub struct TaskState {

@@ -66,7 +66,7 @@ pub enum Step<'a> {
     /// Make an event on an inode.
     Does {
         inode: u32,
-        doing: DueDeed<'a>,
+        due: DueDeed<'a>,
     },
     /// Check an access to an inode. The rules are to give the action.
     Checks {
@@ -117,7 +117,7 @@ pub fn step_by<'a>(admin: bool, call: &'a Call, progress: Progress) -> Step<'a>
 {
     let inode = progress.inode;
     let file = progress.file;
-    let doing = match progress.due.ask {
+    let due = match progress.due.ask {
         Ask::Plain => return plain_step(admin, call),
         Ask::Check { func, mask } => {
             return Step::Checks {
@@ -139,5 +139,5 @@ pub fn step_by<'a>(admin: bool, call: &'a Call, progress: Progress) -> Step<'a>
         Ask::CloseChunk => DueDeed::CloseChunk(file),
         Ask::CloseFinish => DueDeed::CloseFinish(file),
     };
-    Step::Does { inode, doing }
+    Step::Does { inode, due }
 }

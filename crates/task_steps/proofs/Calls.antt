@@ -25,27 +25,27 @@ use Rattle.task_steps.proofs.about_worlds.Eventing.{get_map}
 use Rattle.task_steps.specs.worlds.Ready.{HasLooked, IsReady}
 use Rattle.task_steps.specs.task_states.Steps.{deed_in}
 use Rattle.task_steps.specs.task_states.declared.step.DueDeed.{DueDeed}
-use Rattle.task_steps.specs.task_states.declared.step.DueDeed.TheVariants as doing
+use Rattle.task_steps.specs.task_states.declared.step.DueDeed.TheVariants as due
 use Rattle.task_steps.specs.Acting.{IsPlacedAt, IsSaid, ReadyAt, told_of}
 use Rattle.world_model.specs.Parts.{AreParts, consts_by, state_by}
 use Rattle.task_steps.specs.declared.answers.StepResult.{StepResult}
 
 -- no deed other than a check counts rules
 pub does_count : (n : ℕ) (x : DueDeed) → CountsAll n (deed_in x)
-does_count n doing.Birth = tt
-does_count n (doing.Count how) = tt
-does_count n (doing.Take file) = tt
-does_count n (doing.Chunk file) = tt
-does_count n (doing.Finish file) = tt
-does_count n (doing.Read file from len) = tt
-does_count n (doing.Write file from bytes) = tt
-does_count n (doing.Trunc file len) = tt
-does_count n (doing.SetAttr name value admin) = tt
-does_count n (doing.SetMeta change) = tt
-does_count n (doing.Close file) = tt
-does_count n (doing.CloseTake file) = tt
-does_count n (doing.CloseChunk file) = tt
-does_count n (doing.CloseFinish file) = tt
+does_count n due.Birth = tt
+does_count n (due.Count how) = tt
+does_count n (due.Take file) = tt
+does_count n (due.Chunk file) = tt
+does_count n (due.Finish file) = tt
+does_count n (due.Read file from len) = tt
+does_count n (due.Write file from bytes) = tt
+does_count n (due.Trunc file len) = tt
+does_count n (due.SetAttr name value admin) = tt
+does_count n (due.SetMeta change) = tt
+does_count n (due.Close file) = tt
+does_count n (due.CloseTake file) = tt
+does_count n (due.CloseChunk file) = tt
+does_count n (due.CloseFinish file) = tt
 
 module _ (settings : Settings) (world_inodes : List WorldInodeValue) (supers : List Super)
     (book : Grown Entry) (sems : Grown Event) (rules : PolicyValue) (tasks i : ℕ)

@@ -25,7 +25,7 @@ pub fn apply_at(
     book: &mut Book,
     listed: &mut Pass<Entry>,
     actor: &Actor<'_>,
-    doing: DueDeed<'_>,
+    due: DueDeed<'_>,
     hash_state: &mut HashState,
 ) -> Result<Option<StepResult>, OutOfMemory>
     requires name { pass.old.name ≡ world_inode.old.cell.journal }
@@ -35,17 +35,17 @@ pub fn apply_at(
     requires ready { HasLooked world_inode.old.cell.inode pass.old.number pass.old.seen
         world_inode.old.cell.list pass.old.mine
         → IsReady world_inode.old.cell.inode pass.old.number world_inode.old.cell.list
-        hash_state.old actor.now.action actor.now.slot (deed_in doing) }
+        hash_state.old actor.now.action actor.now.slot (deed_in due) }
     ensures did { WorldInodeDid world_inode.old world_inode.new book.old book.new pass.old pass.new
-        listed.old listed.new actor.now.who (deed_in doing.entry) hash_state.old hash_state.new
+        listed.old listed.new actor.now.who (deed_in due.entry) hash_state.old hash_state.new
         (told_in result) }
     ensures told { IfOk result (λ o. told_of o ≡ outcome world_inode.old.cell.inode book.old.list
-        (deed_in doing.entry) (newest_first world_inode.old.cell.list)) }
+        (deed_in due.entry) (newest_first world_inode.old.cell.list)) }
     ensures place { IfOk result (λ o. IsPlacedAt (length world_inode.old.cell.list) o) }
 {
     let place = world_inode.cell.len();
     book.look(listed);
-    let told = look_and_apply(&mut world_inode.cell, pass, actor, doing, book, hash_state);
+    let told = look_and_apply(&mut world_inode.cell, pass, actor, due, book, hash_state);
     book.look(listed);
     told_at(place, told)
 }

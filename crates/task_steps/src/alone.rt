@@ -23,7 +23,7 @@ pub fn apply_alone_at(
     world_inode: &mut WorldInode,
     pass: &mut Pass<Event>,
     actor: &Actor<'_>,
-    doing: DueDeed<'_>,
+    due: DueDeed<'_>,
     hash_state: &mut HashState,
 ) -> Result<Option<StepResult>, OutOfMemory>
     requires name { pass.old.name ≡ world_inode.old.cell.journal }
@@ -31,16 +31,16 @@ pub fn apply_alone_at(
     requires ready { HasLooked world_inode.old.cell.inode pass.old.number pass.old.seen
         world_inode.old.cell.list pass.old.mine
         → IsReady world_inode.old.cell.inode pass.old.number world_inode.old.cell.list
-        hash_state.old actor.now.action actor.now.slot (deed_in doing) }
-    requires alone { IsAloneDeed (deed_in doing) }
+        hash_state.old actor.now.action actor.now.slot (deed_in due) }
+    requires alone { IsAloneDeed (deed_in due) }
     ensures did { WorldInodeDidAlone world_inode.old world_inode.new pass.old pass.new actor.now.who
-        (deed_in doing.entry) hash_state.old hash_state.new (told_in result) }
+        (deed_in due.entry) hash_state.old hash_state.new (told_in result) }
     ensures told { IfOk result (λ o. (list : List AnyEntry) → told_of o
-        ≡ outcome world_inode.old.cell.inode list (deed_in doing.entry)
+        ≡ outcome world_inode.old.cell.inode list (deed_in due.entry)
         (newest_first world_inode.old.cell.list)) }
     ensures place { IfOk result (λ o. IsPlacedAt (length world_inode.old.cell.list) o) }
 {
     let place = world_inode.cell.len();
-    let told = look_and_apply_alone(&mut world_inode.cell, pass, actor, doing, hash_state);
+    let told = look_and_apply_alone(&mut world_inode.cell, pass, actor, due, hash_state);
     told_at(place, told)
 }

@@ -125,22 +125,22 @@ pub fn collect(
     cell: &mut InodeCell,
     pass: &mut Pass<Event>,
     who: Who,
-    doing: DueDeed<'_>,
+    due: DueDeed<'_>,
     hash_state: &mut HashState,
 ) -> Result<Option<Told>, OutOfMemory>
     requires name { pass.old.name ≡ cell.old.journal }
     requires number { pass.old.number ≡ who.task + 1 }
-    requires may { MayBy cell.old pass.old.number (deed_in doing) }
-    requires hashes { HashesBefore cell.old.inode cell.old.list hash_state.old (deed_in doing) }
-    requires collects { IsCollectingDeed (deed_in doing) }
+    requires may { MayBy cell.old pass.old.number (deed_in due) }
+    requires hashes { HashesBefore cell.old.inode cell.old.list hash_state.old (deed_in due) }
+    requires collects { IsCollectingDeed (deed_in due) }
     ensures acts { IfOk result (λ o. (list : List AnyEntry) → Acts cell.old cell.new list list
-        pass.old pass.new who (deed_in doing.entry) o) }
+        pass.old pass.new who (deed_in due.entry) o) }
     ensures hashes { IfOk result (λ o. HashesTold cell.old.inode cell.new.list hash_state.old
-        hash_state.new (deed_in doing.entry) o) }
+        hash_state.new (deed_in due.entry) o) }
     ensures err { OnErr result (Stays cell.old cell.new pass.old pass.new) }
     ensures kept { OnErr result (hash_state.new ≡ hash_state.old) }
 {
-    match doing {
+    match due {
         DueDeed::Chunk(file) => Ok(Some(chunk(cell, pass, who, file, hash_state)?)),
         DueDeed::CloseTake(file) => close_take(cell, pass, who, file, hash_state),
         DueDeed::CloseChunk(file) => Ok(Some(close_chunk(cell, pass, who, file, hash_state)?)),

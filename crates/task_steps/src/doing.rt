@@ -48,36 +48,36 @@ fn dispatch_alone(
     cell: &mut InodeCell,
     pass: &mut Pass<Event>,
     actor: &Actor<'_>,
-    doing: DueDeed<'_>,
+    due: DueDeed<'_>,
     hash_state: &mut HashState,
 ) -> Result<Option<Told>, OutOfMemory>
     requires name { pass.old.name ≡ cell.old.journal }
     requires number { pass.old.number ≡ actor.now.who.task + 1 }
     requires seen { pass.old.seen ≡ cell.old.list }
-    requires may { MayBy cell.old pass.old.number (deed_in doing) }
-    requires hashes { HashesBefore cell.old.inode cell.old.list hash_state.old (deed_in doing) }
-    requires alone { IsAloneDeed (deed_in doing) }
+    requires may { MayBy cell.old pass.old.number (deed_in due) }
+    requires hashes { HashesBefore cell.old.inode cell.old.list hash_state.old (deed_in due) }
+    requires alone { IsAloneDeed (deed_in due) }
     ensures leaves { (list : List AnyEntry) → Leaves cell.old cell.new list list pass.old pass.new
-        actor.now.who (deed_in doing.entry) (told_in result) }
+        actor.now.who (deed_in due.entry) (told_in result) }
     ensures told { IfOk result (λ o. (list : List AnyEntry)
-        → o ≡ outcome cell.old.inode list (deed_in doing.entry) (newest_first cell.old.list)) }
+        → o ≡ outcome cell.old.inode list (deed_in due.entry) (newest_first cell.old.list)) }
     ensures hashes { HashesTold cell.old.inode cell.new.list hash_state.old hash_state.new
-        (deed_in doing.entry) (told_in result) }
+        (deed_in due.entry) (told_in result) }
 {
-    if goes_on(&doing) {
-        collect(cell, pass, actor.who, doing, hash_state)
+    if goes_on(&due) {
+        collect(cell, pass, actor.who, due, hash_state)
     } else {
-        apply_plain(cell, pass, actor.who, doing, actor.cred)
+        apply_plain(cell, pass, actor.who, due, actor.cred)
     }
 }
 
 // Whether the deed begins, continues or ends a collection, and doesn't consult the measurement
 // list.
-fn goes_on(doing: &DueDeed<'_>) -> bool
-    ensures { result ≡ goes_on (deed_in doing.now) }
+fn goes_on(due: &DueDeed<'_>) -> bool
+    ensures { result ≡ goes_on (deed_in due.now) }
 {
     matches!(
-        doing,
+        due,
         DueDeed::Chunk(_) | DueDeed::CloseTake(_) | DueDeed::CloseChunk(_) | DueDeed::CloseFinish(_)
     )
 }
@@ -87,7 +87,7 @@ fn dispatch(
     cell: &mut InodeCell,
     pass: &mut Pass<Event>,
     actor: &Actor<'_>,
-    doing: DueDeed<'_>,
+    due: DueDeed<'_>,
     book: &mut Book,
     hash_state: &mut HashState,
 ) -> Result<Option<Told>, OutOfMemory>
@@ -96,17 +96,17 @@ fn dispatch(
     requires book_name { cell.old.book ≡ book.old.name }
     requires seen { pass.old.seen ≡ cell.old.list }
     requires ready { IsReady cell.old.inode pass.old.number cell.old.list hash_state.old
-        actor.now.action actor.now.slot (deed_in doing) }
+        actor.now.action actor.now.slot (deed_in due) }
     ensures leaves { Leaves cell.old cell.new book.old.list book.new.list pass.old pass.new
-        actor.now.who (deed_in doing.entry) (told_in result) }
+        actor.now.who (deed_in due.entry) (told_in result) }
     ensures told { IfOk result (λ o. o
-        ≡ outcome cell.old.inode book.old.list (deed_in doing.entry) (newest_first cell.old.list)) }
+        ≡ outcome cell.old.inode book.old.list (deed_in due.entry) (newest_first cell.old.list)) }
     ensures hashes { HashesTold cell.old.inode cell.new.list hash_state.old hash_state.new
-        (deed_in doing.entry) (told_in result) }
+        (deed_in due.entry) (told_in result) }
     ensures book { (book.new.name ≡ book.old.name) × (book.new.callers ≡ book.old.callers) }
 {
     let who = actor.who;
-    match doing {
+    match due {
         DueDeed::Take(file) => {
             listed::take(
                 cell,
@@ -123,7 +123,7 @@ fn dispatch(
             Ok(told) => Ok(Some(told)),
             Err(err) => Err(err),
         },
-        _ => dispatch_alone(cell, pass, actor, doing, hash_state),
+        _ => dispatch_alone(cell, pass, actor, due, hash_state),
     }
 }
 
@@ -132,7 +132,7 @@ pub fn look_and_apply(
     cell: &mut InodeCell,
     pass: &mut Pass<Event>,
     actor: &Actor<'_>,
-    doing: DueDeed<'_>,
+    due: DueDeed<'_>,
     book: &mut Book,
     hash_state: &mut HashState,
 ) -> Result<Option<Told>, OutOfMemory>
@@ -142,19 +142,19 @@ pub fn look_and_apply(
     requires ready { HasLooked cell.old.inode pass.old.number pass.old.seen cell.old.list
         pass.old.mine
         → IsReady cell.old.inode pass.old.number cell.old.list hash_state.old actor.now.action
-        actor.now.slot (deed_in doing) }
+        actor.now.slot (deed_in due) }
     ensures looked { HasLooked cell.old.inode pass.old.number pass.old.seen cell.old.list
         pass.old.mine }
     ensures leaves { Leaves cell.old cell.new book.old.list book.new.list pass.old pass.new
-        actor.now.who (deed_in doing.entry) (told_in result) }
+        actor.now.who (deed_in due.entry) (told_in result) }
     ensures told { IfOk result (λ o. o
-        ≡ outcome cell.old.inode book.old.list (deed_in doing.entry) (newest_first cell.old.list)) }
+        ≡ outcome cell.old.inode book.old.list (deed_in due.entry) (newest_first cell.old.list)) }
     ensures hashes { HashesTold cell.old.inode cell.new.list hash_state.old hash_state.new
-        (deed_in doing.entry) (told_in result) }
+        (deed_in due.entry) (told_in result) }
     ensures book { (book.new.name ≡ book.old.name) × (book.new.callers ≡ book.old.callers) }
 {
     cell.look(pass);
-    dispatch(cell, pass, actor, doing, book, hash_state)
+    dispatch(cell, pass, actor, due, book, hash_state)
 }
 
 /// Looks at the journal, then does a deed that doesn't consult the measurement list, whatever that
@@ -163,7 +163,7 @@ pub fn look_and_apply_alone(
     cell: &mut InodeCell,
     pass: &mut Pass<Event>,
     actor: &Actor<'_>,
-    doing: DueDeed<'_>,
+    due: DueDeed<'_>,
     hash_state: &mut HashState,
 ) -> Result<Option<Told>, OutOfMemory>
     requires name { pass.old.name ≡ cell.old.journal }
@@ -171,19 +171,19 @@ pub fn look_and_apply_alone(
     requires ready { HasLooked cell.old.inode pass.old.number pass.old.seen cell.old.list
         pass.old.mine
         → IsReady cell.old.inode pass.old.number cell.old.list hash_state.old actor.now.action
-        actor.now.slot (deed_in doing) }
-    requires alone { IsAloneDeed (deed_in doing) }
+        actor.now.slot (deed_in due) }
+    requires alone { IsAloneDeed (deed_in due) }
     ensures looked { HasLooked cell.old.inode pass.old.number pass.old.seen cell.old.list
         pass.old.mine }
     ensures leaves { (list : List AnyEntry) → Leaves cell.old cell.new list list pass.old pass.new
-        actor.now.who (deed_in doing.entry) (told_in result) }
+        actor.now.who (deed_in due.entry) (told_in result) }
     ensures told { IfOk result (λ o. (list : List AnyEntry)
-        → o ≡ outcome cell.old.inode list (deed_in doing.entry) (newest_first cell.old.list)) }
+        → o ≡ outcome cell.old.inode list (deed_in due.entry) (newest_first cell.old.list)) }
     ensures hashes { HashesTold cell.old.inode cell.new.list hash_state.old hash_state.new
-        (deed_in doing.entry) (told_in result) }
+        (deed_in due.entry) (told_in result) }
 {
     cell.look(pass);
-    dispatch_alone(cell, pass, actor, doing, hash_state)
+    dispatch_alone(cell, pass, actor, due, hash_state)
 }
 
 // Makes a check that is ready.

@@ -42,18 +42,18 @@ pub fn apply_plain(
     cell: &mut InodeCell,
     pass: &mut Pass<Event>,
     who: Who,
-    doing: DueDeed<'_>,
+    due: DueDeed<'_>,
     cred: &Cred,
 ) -> Result<Option<Told>, OutOfMemory>
     requires name { pass.old.name ≡ cell.old.journal }
     requires number { pass.old.number ≡ who.task + 1 }
-    requires may { MayBy cell.old pass.old.number (deed_in doing) }
-    requires plain { IsPlainDeed (deed_in doing) }
+    requires may { MayBy cell.old pass.old.number (deed_in due) }
+    requires plain { IsPlainDeed (deed_in due) }
     ensures acts { IfOk result (λ o. (list : List AnyEntry) → Acts cell.old cell.new list list
-        pass.old pass.new who (deed_in doing.entry) o) }
+        pass.old pass.new who (deed_in due.entry) o) }
     ensures err { OnErr result (Stays cell.old cell.new pass.old pass.new) }
 {
-    match doing {
+    match due {
         DueDeed::Count(how) => Ok(Some(counted_told(cell.count(pass, who, how)?))),
         DueDeed::Read { file, from, len } => {
             let got = cell.read(pass, who, file, from, len)?;

@@ -14,7 +14,7 @@ use Rattle.world_close.specs.Finished.{IsFinished}
 abbrev pub task_state_of : Tasked → TaskValue
 task_state_of t = t.task_state
 
--- no task's knowledge of its own calls has changed
+-- no task's state has changed
 abbrev pub HaveSameTaskStates : List Tasked → List Tasked → Type 0
 HaveSameTaskStates old new = map task_state_of new ≡ map task_state_of old
 

@@ -30,24 +30,24 @@ impl<N: Name> Locks<N> {
         i: u32,
         passes: &mut Passes,
         actor: &Actor<'_>,
-        doing: DueDeed<'_>,
+        due: DueDeed<'_>,
         hash_state: &mut HashState,
     ) -> Result<Option<StepResult>, OutOfMemory>
         requires passes { ArePassesOf N.consts actor.now.who.task passes.old }
         requires ready { ReadyAt N.consts i passes.old.inodes actor.now.who.task hash_state.old
-            actor.now.action actor.now.slot (deed_in doing) }
-        ensures { EventMet N.consts i actor.now.who (deed_in doing.entry) passes.old passes.new
+            actor.now.action actor.now.slot (deed_in due) }
+        ensures { EventMet N.consts i actor.now.who (deed_in due.entry) passes.old passes.new
             hash_state.old hash_state.new result }
     {
         if i as usize >= self.world_inodes.len() {
             return Ok(None);
         }
-        match doing {
-            DueDeed::Take(_) => self.apply_with_list(rt, i, passes, actor, doing, hash_state),
-            DueDeed::Finish(_) => { self.apply_with_list(rt, i, passes, actor, doing, hash_state) }
-            DueDeed::Chunk(_) => self.apply_page(rt, i, passes, actor, doing, hash_state),
-            DueDeed::CloseChunk(_) => { self.apply_page(rt, i, passes, actor, doing, hash_state) }
-            _ => self.apply_without_list(rt, i, passes, actor, doing, hash_state),
+        match due {
+            DueDeed::Take(_) => self.apply_with_list(rt, i, passes, actor, due, hash_state),
+            DueDeed::Finish(_) => { self.apply_with_list(rt, i, passes, actor, due, hash_state) }
+            DueDeed::Chunk(_) => self.apply_page(rt, i, passes, actor, due, hash_state),
+            DueDeed::CloseChunk(_) => { self.apply_page(rt, i, passes, actor, due, hash_state) }
+            _ => self.apply_without_list(rt, i, passes, actor, due, hash_state),
         }
     }
 
@@ -58,15 +58,15 @@ impl<N: Name> Locks<N> {
         i: u32,
         passes: &mut Passes,
         actor: &Actor<'_>,
-        doing: DueDeed<'_>,
+        due: DueDeed<'_>,
         hash_state: &mut HashState,
     ) -> Result<Option<StepResult>, OutOfMemory>
         requires below { i < length N.consts.each_inode }
         requires passes { ArePassesOf N.consts actor.now.who.task passes.old }
         requires ready { ReadyAt N.consts i passes.old.inodes actor.now.who.task hash_state.old
-            actor.now.action actor.now.slot (deed_in doing) }
-        requires adds { IsListedDeed (deed_in doing) }
-        ensures { EventMet N.consts i actor.now.who (deed_in doing.entry) passes.old passes.new
+            actor.now.action actor.now.slot (deed_in due) }
+        requires adds { IsListedDeed (deed_in due) }
+        ensures { EventMet N.consts i actor.now.who (deed_in due.entry) passes.old passes.new
             hash_state.old hash_state.new result }
     {
         let mut order = Order::new();
@@ -77,7 +77,7 @@ impl<N: Name> Locks<N> {
             &mut list,
             &mut passes.book,
             actor,
-            doing,
+            due,
             hash_state,
         )
     }
@@ -89,20 +89,20 @@ impl<N: Name> Locks<N> {
         i: u32,
         passes: &mut Passes,
         actor: &Actor<'_>,
-        doing: DueDeed<'_>,
+        due: DueDeed<'_>,
         hash_state: &mut HashState,
     ) -> Result<Option<StepResult>, OutOfMemory>
         requires below { i < length N.consts.each_inode }
         requires passes { ArePassesOf N.consts actor.now.who.task passes.old }
         requires ready { ReadyAt N.consts i passes.old.inodes actor.now.who.task hash_state.old
-            actor.now.action actor.now.slot (deed_in doing) }
-        requires alone { IsAloneDeed (deed_in doing) }
-        ensures { EventMet N.consts i actor.now.who (deed_in doing.entry) passes.old passes.new
+            actor.now.action actor.now.slot (deed_in due) }
+        requires alone { IsAloneDeed (deed_in due) }
+        ensures { EventMet N.consts i actor.now.who (deed_in due.entry) passes.old passes.new
             hash_state.old hash_state.new result }
     {
         let mut order = Order::new();
         self.take(rt, &mut order, i)
-            .apply_alone(&mut passes.inodes[i as usize], actor, doing, hash_state)
+            .apply_alone(&mut passes.inodes[i as usize], actor, due, hash_state)
     }
 
     // Takes a page of a collection, and hashes it after the lock is released.
@@ -112,21 +112,21 @@ impl<N: Name> Locks<N> {
         i: u32,
         passes: &mut Passes,
         actor: &Actor<'_>,
-        doing: DueDeed<'_>,
+        due: DueDeed<'_>,
         hash_state: &mut HashState,
     ) -> Result<Option<StepResult>, OutOfMemory>
         requires below { i < length N.consts.each_inode }
         requires passes { ArePassesOf N.consts actor.now.who.task passes.old }
         requires ready { ReadyAt N.consts i passes.old.inodes actor.now.who.task hash_state.old
-            actor.now.action actor.now.slot (deed_in doing) }
-        requires page { IsPageDeed (deed_in doing) }
-        ensures { EventMet N.consts i actor.now.who (deed_in doing.entry) passes.old passes.new
+            actor.now.action actor.now.slot (deed_in due) }
+        requires page { IsPageDeed (deed_in due) }
+        ensures { EventMet N.consts i actor.now.who (deed_in due.entry) passes.old passes.new
             hash_state.old hash_state.new result }
     {
         let mut order = Order::new();
         let taken = self
             .take(rt, &mut order, i)
-            .take_page(&mut passes.inodes[i as usize], actor.who, doing)?;
+            .take_page(&mut passes.inodes[i as usize], actor.who, due)?;
         gather(hash_state, taken.piece, &taken.page);
         let told = piece_told(taken.piece);
         Ok(Some(StepResult {

@@ -53,20 +53,20 @@ fn next_page(
     cell: &mut InodeCell,
     pass: &mut Pass<Event>,
     who: Who,
-    doing: DueDeed<'_>,
+    due: DueDeed<'_>,
 ) -> Result<(Piece, Page), OutOfMemory>
     requires name { pass.old.name ≡ cell.old.journal }
     requires number { pass.old.number ≡ who.task + 1 }
-    requires may { MayBy cell.old pass.old.number (deed_in doing) }
-    requires page { IsPageDeed (deed_in doing) }
+    requires may { MayBy cell.old pass.old.number (deed_in due) }
+    requires page { IsPageDeed (deed_in due) }
     ensures acts { IfOk result (λ r. (list : List AnyEntry) → Acts cell.old cell.new list list
-        pass.old pass.new who (deed_in doing.entry) (Some (piece_told r.0))) }
+        pass.old pass.new who (deed_in due.entry) (Some (piece_told r.0))) }
     ensures page { IfOk result (λ r. (c : AnyCollection)
         → collecting cell.old.inode (newest_first cell.old.list) ≡ Some c
         → r.1 ≡ piece_at (content (newest_first cell.old.list)) c.pieces) }
     ensures err { OnErr result (Stays cell.old cell.new pass.old pass.new) }
 {
-    match doing {
+    match due {
         DueDeed::Chunk(file) => cell.chunk(pass, who, file),
         DueDeed::CloseChunk(file) => cell.close_chunk(pass, who, file),
         _ => unreachable!(),
@@ -78,23 +78,23 @@ pub(crate) fn take_page(
     cell: &mut InodeCell,
     pass: &mut Pass<Event>,
     who: Who,
-    doing: DueDeed<'_>,
+    due: DueDeed<'_>,
 ) -> Result<(Piece, Page), OutOfMemory>
     requires name { pass.old.name ≡ cell.old.journal }
     requires number { pass.old.number ≡ who.task + 1 }
     requires may { HasLooked cell.old.inode pass.old.number pass.old.seen cell.old.list
-        pass.old.mine → MayBy cell.old pass.old.number (deed_in doing) }
-    requires page { IsPageDeed (deed_in doing) }
+        pass.old.mine → MayBy cell.old pass.old.number (deed_in due) }
+    requires page { IsPageDeed (deed_in due) }
     ensures looked { HasLooked cell.old.inode pass.old.number pass.old.seen cell.old.list
         pass.old.mine }
     ensures leaves { (list : List AnyEntry) → Leaves cell.old cell.new list list pass.old pass.new
-        who (deed_in doing.entry) (told_by (λ r. piece_told r.0) result) }
+        who (deed_in due.entry) (told_by (λ r. piece_told r.0) result) }
     ensures told { IfOk result (λ r. (list : List AnyEntry) → Some (piece_told r.0)
-        ≡ outcome cell.old.inode list (deed_in doing.entry) (newest_first cell.old.list)) }
+        ≡ outcome cell.old.inode list (deed_in due.entry) (newest_first cell.old.list)) }
     ensures page { IfOk result (λ r. (c : AnyCollection)
         → collecting cell.old.inode (newest_first cell.old.list) ≡ Some c
         → r.1 ≡ piece_at (content (newest_first cell.old.list)) c.pieces) }
 {
     cell.look(pass);
-    next_page(cell, pass, who, doing)
+    next_page(cell, pass, who, due)
 }

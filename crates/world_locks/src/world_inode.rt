@@ -86,17 +86,17 @@ impl<N: Name> TaggedWorldInode<N> {
         book: &mut TaggedBook<N>,
         listed: &mut Pass<Entry>,
         actor: &Actor<'_>,
-        doing: DueDeed<'_>,
+        due: DueDeed<'_>,
         hash_state: &mut HashState,
     ) -> Result<Option<StepResult>, OutOfMemory>
         requires pass { IsPassAt N.consts self.old.number actor.now.who.task pass.old }
         requires listed { listed.old.name ≡ N.consts.book }
         requires ready { IsReadyBy N.consts self.old.number actor.now.who.task pass.old
-            hash_state.old actor.now.action actor.now.slot (deed_in doing) }
-        requires adds { IsListedDeed (deed_in doing) }
+            hash_state.old actor.now.action actor.now.slot (deed_in due) }
+        requires adds { IsListedDeed (deed_in due) }
         ensures number { self.new.number ≡ self.old.number }
         ensures met { DeedMet N.consts self.old.number pass.old pass.new listed.old listed.new
-            actor.now.who (deed_in doing.entry) hash_state.old hash_state.new result }
+            actor.now.who (deed_in due.entry) hash_state.old hash_state.new result }
     {
         apply_at(
             &mut self.world_inode,
@@ -104,7 +104,7 @@ impl<N: Name> TaggedWorldInode<N> {
             &mut book.book,
             listed,
             actor,
-            doing,
+            due,
             hash_state,
         )
     }
@@ -116,19 +116,19 @@ impl<N: Name> TaggedWorldInode<N> {
         &mut self,
         pass: &mut Pass<Event>,
         actor: &Actor<'_>,
-        doing: DueDeed<'_>,
+        due: DueDeed<'_>,
         hash_state: &mut HashState,
     ) -> Result<Option<StepResult>, OutOfMemory>
         requires pass { IsPassAt N.consts self.old.number actor.now.who.task pass.old }
         requires ready { IsReadyBy N.consts self.old.number actor.now.who.task pass.old
-            hash_state.old actor.now.action actor.now.slot (deed_in doing) }
-        requires alone { IsAloneDeed (deed_in doing) }
+            hash_state.old actor.now.action actor.now.slot (deed_in due) }
+        requires alone { IsAloneDeed (deed_in due) }
         ensures number { self.new.number ≡ self.old.number }
         ensures met { (listed : AnyPass AnyEntry) → DeedMet N.consts self.old.number pass.old
-            pass.new listed listed actor.now.who (deed_in doing.entry) hash_state.old hash_state.new
+            pass.new listed listed actor.now.who (deed_in due.entry) hash_state.old hash_state.new
             result }
     {
-        apply_alone_at(&mut self.world_inode, pass, actor, doing, hash_state)
+        apply_alone_at(&mut self.world_inode, pass, actor, due, hash_state)
     }
 
     /// Takes the next page of the collection that the deed continues.
@@ -136,18 +136,18 @@ impl<N: Name> TaggedWorldInode<N> {
         &mut self,
         pass: &mut Pass<Event>,
         who: Who,
-        doing: DueDeed<'_>,
+        due: DueDeed<'_>,
     ) -> Result<TakenPage, OutOfMemory>
         requires pass { IsPassAt N.consts self.old.number who.task pass.old }
-        requires may { MayByLook N.consts self.old.number who.task pass.old (deed_in doing) }
-        requires page { IsPageDeed (deed_in doing) }
+        requires may { MayByLook N.consts self.old.number who.task pass.old (deed_in due) }
+        requires page { IsPageDeed (deed_in due) }
         ensures number { self.new.number ≡ self.old.number }
-        ensures met { PageMet N.consts self.old.number pass.old pass.new who (deed_in doing.entry)
+        ensures met { PageMet N.consts self.old.number pass.old pass.new who (deed_in due.entry)
             result }
     {
         let world_inode = &mut self.world_inode;
         let place = world_inode.cell.len();
-        taken_at(place, take_page(&mut world_inode.cell, pass, who, doing))
+        taken_at(place, take_page(&mut world_inode.cell, pass, who, due))
     }
 
     /// Checks the inode by all rules in force; the task's pass and the inode's look at them first.

@@ -108,8 +108,7 @@ last_action mode p (a ∷ before) =
 
 -- ---- a task
 
--- a task as contracts see it: its number, its knowledge of its own calls, its hashing, and its
--- passes
+-- a task as contracts see it: its number, its state, its hashing, and its passes
 pub record Tasked : Type 0 where
   pub number : ℕ
   pub task_state : TaskValue

@@ -17,7 +17,7 @@ returns-clause-did c =
     let st : WorldInodeValue = record { cell = s.cell; rules = s.rules; place = s.place } in
     let st2 : WorldInodeValue = record st { cell = c.look_and_apply_alone-told.new.cell } in
     let did : WorldInodeDidAlone st st2 c.args.pass.now c.look_and_apply_alone-told.new.pass
-    c.args.actor.now.who (deed_in c.args.doing) c.args.hash_state.now
+    c.args.actor.now.who (deed_in c.args.due) c.args.hash_state.now
     c.look_and_apply_alone-told.new.hash_state (deeds.told_in c.look_and_apply_alone-told.result) =
     record {
       looked = c.look_and_apply_alone-told.ensures.looked;
@@ -28,11 +28,11 @@ returns-clause-did c =
     } in
     subst (λ (x : WorldInodeValue). WorldInodeDidAlone x st2 c.args.pass.now
     c.look_and_apply_alone-told.new.pass
-    c.args.actor.now.who (deed_in c.args.doing) c.args.hash_state.now
+    c.args.actor.now.who (deed_in c.args.due) c.args.hash_state.now
     c.look_and_apply_alone-told.new.hash_state (told_in c.told_at.result)) c.world_inode.view_is
     (subst (λ (o : Option Told). WorldInodeDidAlone st st2 c.args.pass.now
     c.look_and_apply_alone-told.new.pass
-    c.args.actor.now.who (deed_in c.args.doing) c.args.hash_state.now
+    c.args.actor.now.who (deed_in c.args.due) c.args.hash_state.now
     c.look_and_apply_alone-told.new.hash_state
     o) (sym (ap (λ (r : Result (Option StepResult) AllocError). told_in r) c.told_at.ensures
     ∙ answered_told c.len-place.result c.look_and_apply_alone-told.result)) did)

@@ -8,5 +8,5 @@ pub returns-clause-leaves : goal.returns-clause-leaves
 returns-clause-leaves c =
     λ list. leaves_looked c.args.cell.now c.look.new.self c.dispatch_alone.new.cell list list
     c.args.pass.now c.look.new.pass c.dispatch_alone.new.pass c.args.actor.now.who
-    (deed_in c.args.doing) (told_in c.dispatch_alone.result) c.look.ensures.list c.look.ensures.same
+    (deed_in c.args.due) (told_in c.dispatch_alone.result) c.look.ensures.list c.look.ensures.same
     c.look.ensures.mine c.look.ensures.pass (c.dispatch_alone.ensures.leaves list)

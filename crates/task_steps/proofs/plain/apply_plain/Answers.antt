@@ -7,7 +7,7 @@ use Rattle.ima_templates.specs.declared.entry.Entry.{Entry}
 use Rattle.task_state.specs.Steps.{deed_in}
 use Rattle.task_state.specs.declared.step.DueDeed.{DueDeed}
 use Rattle.world_model.specs.inodes.answers.Answers.{wrote_told as answered}
-use Rattle.task_state.specs.declared.step.DueDeed.TheVariants as doing
+use Rattle.task_state.specs.declared.step.DueDeed.TheVariants as due
 use Rattle.inode_events.specs.declared.told.Told.TheVariants as told
 use Rattle.task_steps.proofs.plain.apply_plain.Goals as goal
 
@@ -16,7 +16,7 @@ returns-in_ok-count-in-Count-clause-acts c =
     λ list. subst (λ (x : DueDeed). Acts c.args.cell.now c.count.new.self list list c.args.pass.now
     c.count.new.pass c.args.who (deed_in x) (Some c.counted_told.result)) (sym c.in-Count.is)
     (subst (λ (x : Told). Acts c.args.cell.now c.count.new.self list list c.args.pass.now
-    c.count.new.pass c.args.who (deed_in (doing.Count c.in-Count.how)) (Some x))
+    c.count.new.pass c.args.who (deed_in (due.Count c.in-Count.how)) (Some x))
     (sym c.counted_told.ensures) (c.in_ok-count-in-Count.ensures.acts list))
 
 pub returns-in_ok-write-in-Write-clause-acts : goal.returns-in_ok-write-in-Write-clause-acts
@@ -25,7 +25,7 @@ returns-in_ok-write-in-Write-clause-acts c =
     c.write.new.pass c.args.who (deed_in x) (Some c.wrote_told.result)) (sym c.in-Write.is)
     (subst (λ (x : Told). Acts c.args.cell.now c.write.new.self list list c.args.pass.now
     c.write.new.pass c.args.who
-    (deed_in (doing.Write c.in-Write.file c.in-Write.from c.in-Write.bytes)) (Some x))
+    (deed_in (due.Write c.in-Write.file c.in-Write.from c.in-Write.bytes)) (Some x))
     (sym c.wrote_told.ensures)
     (subst (λ (b : List ℕ). Acts c.args.cell.now c.write.new.self list list c.args.pass.now
     c.write.new.pass c.args.who (deed.Write c.in-Write.file c.in-Write.from b)
@@ -38,7 +38,7 @@ returns-in_ok-trunc-in-Trunc-clause-acts c =
     c.trunc.new.pass c.args.who (deed_in x) (Some c.wrote_told-in-Trunc.result))
     (sym c.in-Trunc.is)
     (subst (λ (x : Told). Acts c.args.cell.now c.trunc.new.self list list c.args.pass.now
-    c.trunc.new.pass c.args.who (deed_in (doing.Trunc c.in-Trunc.file c.in-Trunc.len)) (Some x))
+    c.trunc.new.pass c.args.who (deed_in (due.Trunc c.in-Trunc.file c.in-Trunc.len)) (Some x))
     (sym c.wrote_told-in-Trunc.ensures) (c.in_ok-trunc-in-Trunc.ensures.acts list))
 
 pub returns-in_ok-got-in-Read-clause-acts : goal.returns-in_ok-got-in-Read-clause-acts

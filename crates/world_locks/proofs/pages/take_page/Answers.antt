@@ -21,7 +21,7 @@ next_page-requires-clause-may c =
       owned = c.look.ensures.owned;
     } in
     may_after c.args.cell.now c.look.new.self c.args.pass.now c.look.new.pass look
-    (deed_in c.args.doing) c.requires.may
+    (deed_in c.args.due) c.requires.may
 
 pub returns-clause-looked : goal.returns-clause-looked
 returns-clause-looked c =
@@ -55,7 +55,7 @@ returns-clause-leaves c =
     } in
     leaves_alone c.args.cell.now c.look.new.self c.args.pass.now c.look.new.pass look
     (λ (r : Piece × List ℕ). piece_told r.0)
-    c.next_page.new.cell c.next_page.new.pass c.args.who (deed_in c.args.doing) c.next_page.result
+    c.next_page.new.cell c.next_page.new.pass c.args.who (deed_in c.args.due) c.next_page.result
     c.next_page.ensures.acts c.next_page.ensures.err
 
 pub returns-clause-told : goal.returns-clause-told
@@ -74,5 +74,5 @@ returns-clause-told c =
     } in
     told_alone c.args.cell.now c.look.new.self c.args.pass.now c.look.new.pass look
     (λ (r : Piece × List ℕ). piece_told r.0)
-    c.next_page.new.cell c.next_page.new.pass c.args.who (deed_in c.args.doing) c.next_page.result
+    c.next_page.new.cell c.next_page.new.pass c.args.who (deed_in c.args.due) c.next_page.result
     c.next_page.ensures.acts

@@ -32,10 +32,10 @@ lock_and_apply-requires-clause-ready g c =
     } in
     let st = due_is (step_at t.task_state.program t.task_state.position.call_state)
     c.in-Some-Does.field-0
-    (step.Does c.in-Some-Does.inode c.in-Some-Does.doing) c.in-Some-Does.field-0-is
+    (step.Does c.in-Some-Does.inode c.in-Some-Does.due) c.in-Some-Does.field-0-is
     c.in-Some-Does.ensures in
     λ κs out. does_ready g.N.Name.consts t c.requires c.who-who.result c.checked.result
-    c.slot_due.result c.in-Some-Does.inode (deed_in c.in-Some-Does.doing) c.who-who.ensures
+    c.slot_due.result c.in-Some-Does.inode (deed_in c.in-Some-Does.due) c.who-who.ensures
     c.checked.ensures
     c.slot_due.ensures st
 
@@ -139,11 +139,11 @@ returns-in-Some-Does g c =
     } in
     let st = due_is (step_at t.task_state.program t.task_state.position.call_state)
     c.in-Some-Does.field-0
-    (step.Does c.in-Some-Does.inode c.in-Some-Does.doing) c.in-Some-Does.field-0-is
+    (step.Does c.in-Some-Does.inode c.in-Some-Does.due) c.in-Some-Does.field-0-is
     c.in-Some-Does.ensures in
     does_met g.N.Name.consts t c.lock_and_apply.new.passes c.who-who.result c.who-who.ensures
     c.in-Some-Does.inode
-    (deed_in c.in-Some-Does.doing)
+    (deed_in c.in-Some-Does.due)
     c.lock_and_apply.new.hash_state c.lock_and_apply.result c.turn_result_of.result st
     c.lock_and_apply.ensures c.turn_result_of.ensures
 

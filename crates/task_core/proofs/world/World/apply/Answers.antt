@@ -49,7 +49,7 @@ apply_at-requires-clause-ready c =
     c.args.passes.now c.passes.view_is c.args.actor.now.who.task c.requires.passes c.args.i
     c.index_mut.result.now c.index_mut-2.result.now within c.index_mut.ensures.value
     c.index_mut-2.ensures.value
-    c.args.hash_state.now c.args.actor.now.action c.args.actor.now.slot (deed_in c.args.doing)
+    c.args.hash_state.now c.args.actor.now.action c.args.actor.now.slot (deed_in c.args.due)
     c.requires.ready
 
 pub invariant_of-self : goal.invariant_of-self
@@ -65,9 +65,9 @@ invariant_of-self c =
           c.index_mut.result.now c.index_mut-2.result.now within c.index_mut.ensures.value
           c.index_mut-2.ensures.value
           c.apply_at.new.world_inode c.apply_at.new.book c.apply_at.new.pass c.apply_at.new.listed
-          c.args.actor.now.who (deed_in c.args.doing) c.args.hash_state.now
+          c.args.actor.now.who (deed_in c.args.due) c.args.hash_state.now
           c.apply_at.new.hash_state
-          (told_in c.apply_at.result) (does_count _ c.args.doing) refl c.apply_at.ensures.did;
+          (told_in c.apply_at.result) (does_count _ c.args.due) refl c.apply_at.ensures.did;
       spares = done_spares w.settings w.world_inodes.items w.supers.items w.book w.sems
           w.rules w.tasks
           c.self.invariant.parts c.args.self.now c.self.view_is q.inodes.items q.sems q.book q.rules
@@ -75,9 +75,9 @@ invariant_of-self c =
           c.index_mut.result.now c.index_mut-2.result.now within c.index_mut.ensures.value
           c.index_mut-2.ensures.value
           c.apply_at.new.world_inode c.apply_at.new.book c.apply_at.new.pass c.apply_at.new.listed
-          c.args.actor.now.who (deed_in c.args.doing) c.args.hash_state.now
+          c.args.actor.now.who (deed_in c.args.due) c.args.hash_state.now
           c.apply_at.new.hash_state
-          (told_in c.apply_at.result) (does_count _ c.args.doing) refl c.apply_at.ensures.did
+          (told_in c.apply_at.result) (does_count _ c.args.due) refl c.apply_at.ensures.did
           w.spares.items c.self.invariant.spares;
     }
 
@@ -92,8 +92,8 @@ returns-clause-consts c =
     c.index_mut.result.now c.index_mut-2.result.now within c.index_mut.ensures.value
     c.index_mut-2.ensures.value
     c.apply_at.new.world_inode c.apply_at.new.book c.apply_at.new.pass c.apply_at.new.listed
-    c.args.actor.now.who (deed_in c.args.doing) c.args.hash_state.now c.apply_at.new.hash_state
-    (told_in c.apply_at.result) (does_count _ c.args.doing) refl c.apply_at.ensures.did
+    c.args.actor.now.who (deed_in c.args.due) c.args.hash_state.now c.apply_at.new.hash_state
+    (told_in c.apply_at.result) (does_count _ c.args.due) refl c.apply_at.ensures.did
 
 pub returns-clause-event : goal.returns-clause-event
 returns-clause-event c =
@@ -106,8 +106,8 @@ returns-clause-event c =
     c.index_mut.result.now c.index_mut-2.result.now within c.index_mut.ensures.value
     c.index_mut-2.ensures.value
     c.apply_at.new.world_inode c.apply_at.new.book c.apply_at.new.pass c.apply_at.new.listed
-    c.args.actor.now.who (deed_in c.args.doing) c.args.hash_state.now c.apply_at.new.hash_state
-    (told_in c.apply_at.result) (does_count _ c.args.doing) refl c.apply_at.ensures.did
+    c.args.actor.now.who (deed_in c.args.due) c.args.hash_state.now c.apply_at.new.hash_state
+    (told_in c.apply_at.result) (does_count _ c.args.due) refl c.apply_at.ensures.did
 
 pub returns-clause-told : goal.returns-clause-told
 returns-clause-told c =
@@ -119,4 +119,4 @@ returns-clause-told c =
     c.args.passes.now c.passes.view_is c.args.actor.now.who.task c.requires.passes c.args.i
     c.index_mut.result.now c.index_mut-2.result.now within c.index_mut.ensures.value
     c.index_mut-2.ensures.value
-    c.apply_at.result (deed_in c.args.doing) c.apply_at.ensures.told c.apply_at.ensures.place
+    c.apply_at.result (deed_in c.args.due) c.apply_at.ensures.told c.apply_at.ensures.place

@@ -21,10 +21,10 @@ apply-requires-clause-ready c =
     } in
     let st = due_is (step_at t.task_state.program t.task_state.position.call_state)
     c.in-Some-Does.field-0
-    (step.Does c.in-Some-Does.inode c.in-Some-Does.doing) c.in-Some-Does.field-0-is
+    (step.Does c.in-Some-Does.inode c.in-Some-Does.due) c.in-Some-Does.field-0-is
     c.in-Some-Does.ensures in
     does_ready c.args.self.now.consts t c.requires c.who-who.result c.checked.result
-    c.slot_due.result c.in-Some-Does.inode (deed_in c.in-Some-Does.doing) c.who-who.ensures
+    c.slot_due.result c.in-Some-Does.inode (deed_in c.in-Some-Does.due) c.who-who.ensures
     c.checked.ensures
     c.slot_due.ensures st
 
@@ -71,11 +71,11 @@ returns-in-Some-Does-clause-reaches c =
     } in
     let st = due_is (step_at t.task_state.program t.task_state.position.call_state)
     c.in-Some-Does.field-0
-    (step.Does c.in-Some-Does.inode c.in-Some-Does.doing) c.in-Some-Does.field-0-is
+    (step.Does c.in-Some-Does.inode c.in-Some-Does.due) c.in-Some-Does.field-0-is
     c.in-Some-Does.ensures in
     does_turn c.args.self.now.consts t c.args.self.now.state c.apply.new.self.state
     c.apply.new.passes c.who-who.result c.who-who.ensures c.in-Some-Does.inode
-    (deed_in c.in-Some-Does.doing)
+    (deed_in c.in-Some-Does.due)
     c.apply.new.hash_state c.apply.result c.turn_result_of.result st c.apply.ensures.event
     c.apply.ensures.told c.turn_result_of.ensures
 

@@ -27,9 +27,9 @@ take_page-requires-clause-may g c κs within =
     look_of p.inodes.items p.sems p.book p.rules c.args.passes.now c.passes.view_is
     c.args.actor.now.who g.N.Name.consts c.requires.passes c.args.i
     c.deref_mut.result.now.number taken c.requires.below c.index_mut.result.now
-    c.index_mut.ensures.value (deed_in c.args.doing)
+    c.index_mut.ensures.value (deed_in c.args.due)
     (may_of g.N.Name.consts c.args.i c.args.passes.now.inodes c.args.actor.now.who.task
-    c.args.hash_state.now c.args.actor.now.action c.args.actor.now.slot (deed_in c.args.doing)
+    c.args.hash_state.now c.args.actor.now.action c.args.actor.now.slot (deed_in c.args.due)
     c.requires.ready)
 
 pub returns-in_err-taken : goal.returns-in_err-taken
@@ -42,9 +42,9 @@ returns-in_err-taken g c =
     c.args.actor.now.who g.N.Name.consts c.requires.passes c.args.i
     c.deref_mut.result.now.number taken c.requires.below c.index_mut.result.now
     c.index_mut.ensures.value
-    c.take_page.new.pass p.book (deed_in c.args.doing) c.args.hash_state.now c.args.hash_state.now
+    c.take_page.new.pass p.book (deed_in c.args.due) c.args.hash_state.now c.args.hash_state.now
     (Err e.0) (page_failed g.N.Name.consts c.deref_mut.result.now.number c.index_mut.result.now
-    c.take_page.new.pass p.book c.args.actor.now.who (deed_in c.args.doing) c.args.hash_state.now _
+    c.take_page.new.pass p.book c.args.actor.now.who (deed_in c.args.due) c.args.hash_state.now _
     e.0 c.in_err-taken.ensures.met))
 
 pub returns : goal.returns
@@ -61,15 +61,15 @@ returns g c =
     c.args.actor.now.who g.N.Name.consts c.requires.passes c.args.i
     c.deref_mut.result.now.number taken c.requires.below c.index_mut.result.now
     c.index_mut.ensures.value c.args.hash_state.now
-    c.args.actor.now.action c.args.actor.now.slot (deed_in c.args.doing) c.requires.ready in
+    c.args.actor.now.action c.args.actor.now.slot (deed_in c.args.due) c.requires.ready in
     let ready = its_ready g.N.Name.consts c.deref_mut.result.now.number m.world_inode m.alone.is
     c.args.actor.now.who.task c.index_mut.result.now c.args.hash_state.now c.args.actor.now.action
-    c.args.actor.now.slot (deed_in c.args.doing) its by m.alone.looked in
+    c.args.actor.now.slot (deed_in c.args.due) its by m.alone.looked in
     deed_opened p.inodes.items p.sems p.book p.rules c.args.passes.now c.passes.view_is
     c.args.actor.now.who g.N.Name.consts c.requires.passes c.args.i
     c.deref_mut.result.now.number taken c.requires.below c.index_mut.result.now
     c.index_mut.ensures.value
-    c.take_page.new.pass p.book (deed_in c.args.doing) c.args.hash_state.now
+    c.take_page.new.pass p.book (deed_in c.args.due) c.args.hash_state.now
     c.gather.new.hash_state
     (Ok (Some (record {
       place = c.in_ok-taken.taken.place;
@@ -78,6 +78,6 @@ returns g c =
           None;
     })))
     (page_met g.N.Name.consts c.deref_mut.result.now.number c.index_mut.result.now
-    c.take_page.new.pass p.book c.args.actor.now.who (deed_in c.args.doing) c.args.hash_state.now
+    c.take_page.new.pass p.book c.args.actor.now.who (deed_in c.args.due) c.args.hash_state.now
     c.gather.new.hash_state c.in_ok-taken.taken c.requires.page m ready.hashes c.gather.ensures
     c.piece_told-told.result c.piece_told-told.ensures)

@@ -26,7 +26,7 @@ apply-requires-clause-ready g c κs within =
     c.args.actor.now.who g.N.Name.consts c.requires.passes c.args.i
     c.deref_mut.result.now.number taken c.requires.below c.index_mut.result.now
     c.index_mut.ensures.value
-    c.args.hash_state.now c.args.actor.now.action c.args.actor.now.slot (deed_in c.args.doing)
+    c.args.hash_state.now c.args.actor.now.action c.args.actor.now.slot (deed_in c.args.due)
     c.requires.ready
 
 pub returns : goal.returns
@@ -39,5 +39,5 @@ returns g c =
     c.args.actor.now.who g.N.Name.consts c.requires.passes c.args.i
     c.deref_mut.result.now.number taken c.requires.below c.index_mut.result.now
     c.index_mut.ensures.value
-    c.apply.new.pass c.apply.new.listed (deed_in c.args.doing) c.args.hash_state.now
+    c.apply.new.pass c.apply.new.listed (deed_in c.args.due) c.args.hash_state.now
     c.apply.new.hash_state c.apply.result c.apply.ensures.met

@@ -13,7 +13,7 @@ returns-then-i-len g c =
     let none : length g.N.Name.consts.each_inode ≤ c.args.i =
     omega (arith, c.len.ensures, own.world_inodes.ok.0, own.count) in
     none_met g.N.Name.consts c.args.i c.args.passes.now c.args.actor.now.who
-    (deed_in c.args.doing) c.args.hash_state.now none
+    (deed_in c.args.due) c.args.hash_state.now none
 
 pub apply_with_list-requires-clause-adds : goal.apply_with_list-requires-clause-adds
 apply_with_list-requires-clause-adds g c κs within =

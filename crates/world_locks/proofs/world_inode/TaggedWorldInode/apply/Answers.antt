@@ -31,7 +31,7 @@ apply_at-requires-clause-ready g c =
     let is = world_inode_at g.N.Name.consts w.number w.world_inode v c.self.view_is
     c.self.invariant in
     its_ready g.N.Name.consts v.number w.world_inode is c.args.actor.now.who.task c.args.pass.now
-    c.args.hash_state.now c.args.actor.now.action c.args.actor.now.slot (deed_in c.args.doing)
+    c.args.hash_state.now c.args.actor.now.action c.args.actor.now.slot (deed_in c.args.due)
     c.requires.pass c.requires.ready
 
 pub invariant_of-self : goal.invariant_of-self
@@ -40,16 +40,16 @@ invariant_of-self g c =
     world_inode_still g.N.Name.consts w.number w.world_inode c.self.invariant
     c.apply_at.new.world_inode c.book.inside.book c.apply_at.new.book
     c.args.pass.now c.apply_at.new.pass c.args.listed.now c.apply_at.new.listed c.args.actor.now.who
-    (deed_in c.args.doing) c.args.hash_state.now c.apply_at.new.hash_state
+    (deed_in c.args.due) c.args.hash_state.now c.apply_at.new.hash_state
     (told_in c.apply_at.result) c.apply_at.ensures.did
-    (does_count _ c.args.doing)
+    (does_count _ c.args.due)
 
 pub invariant_of-book : goal.invariant_of-book
 invariant_of-book g c =
     book_still g.N.Name.consts c.self.inside.world_inode c.apply_at.new.world_inode
     c.book.inside.book c.apply_at.new.book
     c.args.pass.now c.apply_at.new.pass c.args.listed.now c.apply_at.new.listed c.args.actor.now.who
-    (deed_in c.args.doing) c.args.hash_state.now c.apply_at.new.hash_state
+    (deed_in c.args.due) c.args.hash_state.now c.apply_at.new.hash_state
     (told_in c.apply_at.result) c.apply_at.ensures.did c.book.invariant
 
 pub returns-clause-met : goal.returns-clause-met

@@ -32,7 +32,7 @@ apply_alone_at-requires-clause-ready g c =
     let is = world_inode_at g.N.Name.consts w.number w.world_inode v c.self.view_is
     c.self.invariant in
     its_ready g.N.Name.consts v.number w.world_inode is c.args.actor.now.who.task c.args.pass.now
-    c.args.hash_state.now c.args.actor.now.action c.args.actor.now.slot (deed_in c.args.doing)
+    c.args.hash_state.now c.args.actor.now.action c.args.actor.now.slot (deed_in c.args.due)
     c.requires.pass c.requires.ready
 
 pub invariant_of-self : goal.invariant_of-self
@@ -41,9 +41,9 @@ invariant_of-self g c =
     let did = c.apply_alone_at.ensures.did in
     world_inode_left g.N.Name.consts w.number w.world_inode c.self.invariant
     c.apply_alone_at.new.world_inode
-    [] [] c.args.pass.now c.apply_alone_at.new.pass c.args.actor.now.who (deed_in c.args.doing)
+    [] [] c.args.pass.now c.apply_alone_at.new.pass c.args.actor.now.who (deed_in c.args.due)
     (told_in c.apply_alone_at.result) (did.leaves []) did.rules did.place
-    (does_count _ c.args.doing)
+    (does_count _ c.args.due)
 
 pub returns-clause-met : goal.returns-clause-met
 returns-clause-met g c =
@@ -52,7 +52,7 @@ returns-clause-met g c =
     let is = world_inode_at g.N.Name.consts w.number w.world_inode v c.self.view_is
     c.self.invariant in
     λ listed. alone_met g.N.Name.consts v.number c.args.pass.now c.apply_alone_at.new.pass listed
-    c.args.actor.now.who (deed_in c.args.doing) c.args.hash_state.now
+    c.args.actor.now.who (deed_in c.args.due) c.args.hash_state.now
     c.apply_alone_at.new.hash_state
     w.world_inode c.apply_alone_at.new.world_inode c.apply_alone_at.result is
     c.apply_alone_at.ensures.did c.apply_alone_at.ensures.told c.apply_alone_at.ensures.place

@@ -23,7 +23,7 @@ take_page-requires-clause-may g c =
     let is : IsWorldInode g.N.Name.consts v.number st =
     world_inode_opened g.N.Name.consts w.number st w.world_inode v c.world_inode.view_is
     c.self.view_is c.self.invariant in
-    may_alone g.N.Name.consts v.number st is c.args.who.task c.args.pass.now (deed_in c.args.doing)
+    may_alone g.N.Name.consts v.number st is c.args.who.task c.args.pass.now (deed_in c.args.due)
     c.requires.pass c.requires.may
 
 pub invariant_of-self : goal.invariant_of-self
@@ -37,9 +37,9 @@ invariant_of-self g c =
     world_inode_left g.N.Name.consts w.number st is (record st {
       cell = c.take_page.new.cell;
     }) [] []
-    c.args.pass.now c.take_page.new.pass c.args.who (deed_in c.args.doing)
+    c.args.pass.now c.take_page.new.pass c.args.who (deed_in c.args.due)
     (told_by (λ (r : Piece × List ℕ). piece_told r.0) c.take_page.result)
-    (c.take_page.ensures.leaves []) refl refl (does_count _ c.args.doing)
+    (c.take_page.ensures.leaves []) refl refl (does_count _ c.args.due)
 
 pub returns-clause-met : goal.returns-clause-met
 returns-clause-met g c =
@@ -51,9 +51,9 @@ returns-clause-met g c =
     world_inode_opened g.N.Name.consts w.number st w.world_inode v c.world_inode.view_is
     c.self.view_is c.self.invariant in
     subst (λ (r : Result TakenPage AllocError). PageMet g.N.Name.consts v.number c.args.pass.now
-    c.take_page.new.pass c.args.who (deed_in c.args.doing) r) (sym c.taken_at.ensures)
+    c.take_page.new.pass c.args.who (deed_in c.args.due) r) (sym c.taken_at.ensures)
     (page_is_met g.N.Name.consts v.number st is c.take_page.new.cell c.args.pass.now
     c.take_page.new.pass
-    c.args.who (deed_in c.args.doing) c.take_page.ensures.looked c.len-place.result
+    c.args.who (deed_in c.args.due) c.take_page.ensures.looked c.len-place.result
     c.len-place.ensures
     c.take_page.result c.take_page.ensures.leaves c.take_page.ensures.told c.take_page.ensures.page)
