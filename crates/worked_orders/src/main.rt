@@ -10,10 +10,11 @@ mod faults;
 mod outcome;
 mod parts;
 
-use crate::outcome::answer;
-use anyhow::{Context, Result, ensure};
+use crate::outcome::{SOUND, answers};
 use order_top::{DONE, REFUSED, TOO_MANY, USAGE};
-use std::fs;
+use std::alloc::Global;
+use std::io::{Error, ErrorKind};
+use std::{fs, io};
 
 // The names of the scripts.
 const SCRIPTS: [&str; 8] = [
@@ -87,61 +88,45 @@ const WORDS: [(&str, &str, u8, &str, &str); 31] = [
     ("1000 0", "cut", REFUSED, "", "line 4: no-end\n"),
 ];
 
-fn main(rt: HostRuntime) -> Result<()> {
+fn main(rt: HostRuntime) -> io::Result<()> {
     let rows = rows_hold(&rt)?;
     let words = all_words_hold(&rt)?;
-    let parts = parts_hold(&rt)?;
+    let parts = all_parts_hold(&rt)?;
     let faults = faults_hold(&rt)?;
-    ensure!(rows && words && parts && faults, "not as it should be");
-    Ok(())
+    if rows && words && parts && faults {
+        Ok(())
+    } else {
+        Err(Error::from(ErrorKind::Other))
+    }
 }
 
 // Whether each script has its stored answer.
-fn rows_hold(rt: &HostRuntime) -> Result<bool> {
+fn rows_hold(rt: &HostRuntime) -> io::Result<bool> {
     let mut all = true;
-    for name in SCRIPTS {
-        let got = answer(rt.alloc(), "", &script(rt, name)?)?;
-        all = row(rt, "rows", name, got.is(DONE, &rows(rt, name)?, ""))? && all;
+    for name in &SCRIPTS {
+        all = script_holds(rt, name)? && all;
     }
     Ok(all)
+}
+
+// Whether the script of this name has its stored answer.
+fn script_holds(rt: &HostRuntime, name: &str) -> io::Result<bool> {
+    let script = text_of(rt, name, "script")?;
+    let rows = text_of(rt, name, "orders")?;
+    let well = answers(rt.alloc(), "", &script, SOUND, (DONE, &rows, ""))?;
+    row(rt, "rows", name, well)
 }
 
 // Whether all words have their outcomes.
-fn all_words_hold(rt: &HostRuntime) -> Result<bool> {
+fn all_words_hold(rt: &HostRuntime) -> io::Result<bool> {
     let mut all = true;
-    for (words, name, status, out, note) in WORDS {
-        let holds = words_hold(rt, words, name, status, out, note)?;
-        all = row(rt, name, words, holds)? && all;
+    for (words, name, status, out, note) in &WORDS {
+        all = words_hold(rt, words, name, *status, out, note)? && all;
     }
     Ok(all)
 }
 
-// Whether the answers for parts add up.
-fn parts_hold(rt: &HostRuntime) -> Result<bool> {
-    let mut all = true;
-    for (name, firsts) in PARTS {
-        let holds = parts::add_up(rt.alloc(), &script(rt, name)?, &rows(rt, name)?, firsts)?;
-        all = row(rt, name, "parts add up", holds)? && all;
-    }
-    Ok(all)
-}
-
-// The text of the script of this name.
-fn script(rt: &HostRuntime, name: &str) -> Result<Vec<u8>> {
-    let file = format!(in rt.alloc(); "{name}.script")?;
-    let text = fs::read(rt, file.as_str()).context(file.as_str())?;
-    Ok(text)
-}
-
-// The stored answer for all its orders.
-fn rows(rt: &HostRuntime, name: &str) -> Result<Vec<u8>> {
-    let file = format!(in rt.alloc(); "{name}.orders")?;
-    let text = fs::read(rt, file.as_str()).context(file.as_str())?;
-    Ok(text)
-}
-
-// Whether the words have this outcome on the script. An output that is a script's name is its
-// stored answer.
+// Whether the words have this outcome on the script.
 fn words_hold(
     rt: &HostRuntime,
     words: &str,
@@ -149,31 +134,79 @@ fn words_hold(
     status: u8,
     out: &str,
     note: &str,
-) -> Result<bool> {
-    let got = answer(rt.alloc(), words, &script(rt, name)?)?;
+) -> io::Result<bool> {
+    let script = text_of(rt, name, "script")?;
+    let out = output(rt, out)?;
+    let well = answers(rt.alloc(), words, &script, SOUND, (status, &out, note))?;
+    row(rt, name, words, well)
+}
+
+// The output that is meant: one that is a script's name is its stored answer.
+fn output(rt: &HostRuntime, out: &str) -> io::Result<Vec<u8>> {
     if SCRIPTS.contains(&out) {
-        return Ok(got.is(status, &rows(rt, out)?, note));
+        return text_of(rt, out, "orders");
     }
-    Ok(got.is(status, out.as_bytes(), note))
+    Ok(out.as_bytes().to_vec(rt.alloc())?)
+}
+
+// Whether the answers for parts add up.
+fn all_parts_hold(rt: &HostRuntime) -> io::Result<bool> {
+    let mut all = true;
+    for (name, firsts) in &PARTS {
+        all = parts_hold(rt, name, firsts)? && all;
+    }
+    Ok(all)
+}
+
+// Whether the answers for these parts add up.
+fn parts_hold(rt: &HostRuntime, name: &str, firsts: &[&str]) -> io::Result<bool> {
+    let script = text_of(rt, name, "script")?;
+    let whole = text_of(rt, name, "orders")?;
+    let well = parts::add_up(rt.alloc(), &script, &whole, firsts)?;
+    row(rt, name, "parts add up", well)
+}
+
+// The text of the file of this name and ending.
+fn text_of(rt: &HostRuntime, name: &str, ending: &str) -> io::Result<Vec<u8>> {
+    let file = format!(in rt.alloc(); "{name}.{ending}")?;
+    fs::read(rt, file.as_str())
 }
 
 // Tries streams that fail, the longest input, and the longest word.
-fn faults_hold(rt: &HostRuntime) -> Result<bool> {
-    let script = script(rt, "opens")?;
-    let whole = rows(rt, "opens")?;
-    let reads = faults::reads_fail(rt.alloc(), &script, &whole)?;
-    let reads = row(rt, "faults", "reading fails", reads)?;
-    let writes = faults::writes_fail(rt.alloc(), &script, &whole)?;
-    let writes = row(rt, "faults", "writing fails", writes)?;
-    let limits = faults::limits_hold(rt.alloc(), &script, &whole)?;
+fn faults_hold(rt: &HostRuntime) -> io::Result<bool> {
+    let script = text_of(rt, "opens", "script")?;
+    let whole = text_of(rt, "opens", "orders")?;
+    all_faults_hold(rt, rt.alloc(), &script, &whole)
+}
+
+// Tries them on this script with this answer.
+fn all_faults_hold(
+    rt: &HostRuntime,
+    alloc: Global,
+    script: &[u8],
+    whole: &[u8],
+) -> io::Result<bool> {
+    let reads = row(
+        rt,
+        "faults",
+        "reading fails",
+        faults::reads_fail(alloc, script, whole)?,
+    )?;
+    let writes = row(
+        rt,
+        "faults",
+        "writing fails",
+        faults::writes_fail(alloc, script, whole)?,
+    )?;
+    let limits = faults::limits_hold(alloc, script, whole)?;
     let limits = row(rt, "faults", "the longest input", limits)?;
-    let turns = faults::turns_hold(rt.alloc(), &script)?;
+    let turns = faults::turns_hold(alloc, script)?;
     let turns = row(rt, "faults", "the most first turns", turns)?;
     Ok(reads && writes && limits && turns)
 }
 
 // Prints a line, and returns whether the case holds.
-fn row(rt: &HostRuntime, family: &str, name: &str, holds: bool) -> Result<bool> {
+fn row(rt: &HostRuntime, family: &str, name: &str, holds: bool) -> io::Result<bool> {
     println!(rt; "{family}: {name}{}", if holds { "" } else { ": DIFFERS" })?;
     Ok(holds)
 }

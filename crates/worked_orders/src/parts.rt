@@ -1,8 +1,9 @@
 // Answers for parts of a script's orders, which are added.
 
-use crate::outcome::answer;
+use crate::outcome::{SOUND, answer_over};
 use order_top::DONE;
 use std::alloc::{AllocError as OutOfMemory, Global};
+use std::str;
 
 // A row of an answer.
 #[derive(Clone, Copy, Drop)]
@@ -14,15 +15,22 @@ struct Row<'a> {
     outcome: &'a str,
 }
 
+// What stands before the mark and what stands after it; the whole text and nothing, if the mark
+// isn't there.
+fn cut<'a>(text: &'a str, mark: &str) -> (&'a str, &'a str) {
+    text.split_once(mark).unwrap_or((text, ""))
+}
+
 impl<'a> Row<'a> {
-    // The row of this text, which goes on after `outcome `.
+    // The row of this text, which begins after `outcome ` and goes on with the next row or the end.
     fn of(text: &'a str) -> Option<Row<'a>> {
-        let (count, rest) = text.split_once('\n')?;
-        let (first, outcome) = rest.split_once('\n')?;
+        let (count, rest) = cut(text, "\n");
+        let (first, rest) = cut(rest, "\n");
+        let (outcome, _) = cut(rest, "\nend\n");
         Some(Row {
             count: count.parse().ok()?,
             first,
-            outcome: outcome.strip_suffix("\nend\n").unwrap_or(outcome),
+            outcome,
         })
     }
 
@@ -34,46 +42,38 @@ impl<'a> Row<'a> {
     }
 
     // The two rows of one outcome, added.
-    fn and(self, other: Row<'a>) -> Option<Row<'a>> {
-        Some(Row {
-            count: self.count.checked_add(other.count)?,
+    fn and(self, other: Row<'a>) -> Row<'a> {
+        Row {
+            count: self.count.saturating_add(other.count),
             first: if other.first < self.first {
                 other.first
             } else {
                 self.first
             },
             outcome: self.outcome,
-        })
+        }
     }
 }
 
-// Adds the row to the one of its outcome, if there is one. Returns whether it has its form.
-fn add<'a>(rows: &mut Vec<Row<'a>>, text: &'a str) -> Result<bool, OutOfMemory> {
-    let Some(row) = Row::of(text) else {
-        return Ok(false);
-    };
+// Adds the row to the one of its outcome, if there is one.
+fn add<'a>(rows: &mut Vec<Row<'a>>, row: Row<'a>) -> Result<(), OutOfMemory> {
     for other in rows.iter_mut() {
         if other.outcome == row.outcome {
-            let Some(sum) = other.and(row) else {
-                return Ok(false);
-            };
-            *other = sum;
-            return Ok(true);
+            *other = other.and(row);
+            return Ok(());
         }
     }
     rows.push(row)?;
-    Ok(true)
+    Ok(())
 }
 
-// Adds the rows of an answer. Returns whether they have their form.
-fn add_all<'a>(rows: &mut Vec<Row<'a>>, answer: &'a [u8]) -> Result<bool, OutOfMemory> {
-    let Ok(text) = std::str::from_utf8(answer) else {
-        return Ok(false);
-    };
-    for row in text.split("\noutcome ").skip(1) {
-        if !add(rows, row)? {
+// Adds the rows of some answers. Returns whether they have their form.
+fn add_all<'a>(rows: &mut Vec<Row<'a>>, answers: &'a str) -> Result<bool, OutOfMemory> {
+    for text in answers.split("\noutcome ").skip(1) {
+        let Some(row) = Row::of(text) else {
             return Ok(false);
-        }
+        };
+        add(rows, row)?;
     }
     Ok(true)
 }
@@ -98,6 +98,55 @@ fn are_same(a: &[Row<'_>], b: &[Row<'_>]) -> bool {
     a.len() == b.len()
 }
 
+// Whether the rows of both answers, added, are the same.
+fn have_same_rows(alloc: Global, some: &[u8], others: &[u8]) -> Result<bool, OutOfMemory> {
+    let Ok(some) = str::from_utf8(some) else {
+        return Ok(false);
+    };
+    let Ok(others) = str::from_utf8(others) else {
+        return Ok(false);
+    };
+    let mut a = Vec::new(alloc);
+    let mut b = Vec::new(alloc);
+    Ok(add_all(&mut a, some)? && add_all(&mut b, others)? && are_same(&a, &b))
+}
+
+// Whether the answer has one end, with nothing after it.
+fn is_whole(answer: &[u8]) -> bool {
+    match str::from_utf8(answer) {
+        Ok(text) => text.ends_with("\nend\n") && text.split("\nend\n").count() == 2,
+        Err(_) => false,
+    }
+}
+
+// Appends the answer for the orders that begin with these turns. Returns whether there is one.
+fn push_part(
+    alloc: Global,
+    script: &[u8],
+    first: &str,
+    answers: &mut Vec<u8>,
+) -> Result<bool, OutOfMemory> {
+    let words = format!(in alloc; "100000 {first}")?;
+    let got = answer_over(alloc, words.as_str(), script, SOUND)?;
+    answers.extend_from_slice(got.out())?;
+    Ok(got.status == DONE && is_whole(got.out()))
+}
+
+// Appends the answers for the orders that begin with each of these turns.
+fn push_parts(
+    alloc: Global,
+    script: &[u8],
+    parts: &[&str],
+    answers: &mut Vec<u8>,
+) -> Result<bool, OutOfMemory> {
+    for first in parts {
+        if !push_part(alloc, script, first, answers)? {
+            return Ok(false);
+        }
+    }
+    Ok(true)
+}
+
 /// Whether the answers for the orders that begin with each of these turns add up to the whole
 /// answer.
 pub fn add_up(
@@ -107,20 +156,5 @@ pub fn add_up(
     parts: &[&str],
 ) -> Result<bool, OutOfMemory> {
     let mut answers = Vec::new(alloc);
-    for first in parts {
-        let words = format!(in alloc; "100000 {first}")?;
-        let got = answer(alloc, words.as_str(), script)?;
-        if got.status != DONE {
-            return Ok(false);
-        }
-        answers.push(got.out)?;
-    }
-    let mut sum = Vec::new(alloc);
-    for part in &answers {
-        if !add_all(&mut sum, part)? {
-            return Ok(false);
-        }
-    }
-    let mut all = Vec::new(alloc);
-    Ok(add_all(&mut all, whole)? && are_same(&sum, &all))
+    Ok(push_parts(alloc, script, parts, &mut answers)? && have_same_rows(alloc, &answers, whole)?)
 }

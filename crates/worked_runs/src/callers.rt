@@ -1,6 +1,7 @@
 // Many callers on many threads, all of which measure the same buffers.
+use crate::gates::CaseGate;
 use crate::spread::spread;
-use buffer_measure::{Answer, Answers, BufferRun, measure_all, parse};
+use buffer_measure::{Answer, Answers, BufferRun, BufferText, measure_all, parse};
 use ima_io::FreeGate;
 use script_text::ScriptErr;
 use std::alloc::{AllocError as OutOfMemory, Global};
@@ -14,18 +15,22 @@ const BUFFERS: usize = 512;
 
 const RUNS: u32 = 100;
 
+// The text of one caller.
+fn caller(alloc: Global) -> Result<String, OutOfMemory> {
+    let text = "caller uid=0 euid=0 gid=0 egid=0\n{{0..512 critical b{} hex:\n}}";
+    let text = spread(alloc, text)?;
+    Ok(text.unwrap_or(String::new(alloc)))
+}
+
 // The text of the callers.
-fn text(alloc: Global) -> Result<Option<String>, OutOfMemory> {
-    let block = "caller uid=0 euid=0 gid=0 egid=0\n{{0..512 critical b{} hex:\n}}";
-    let Some(block) = spread(alloc, block)? else {
-        return Ok(None);
-    };
+fn text(alloc: Global) -> Result<String, OutOfMemory> {
+    let caller = caller(alloc)?;
     let mut text = String::from_str(alloc, "imabuffers 1\nrule measure func=CRITICAL_DATA\n")?;
     for _ in 0..CALLERS {
-        text.push_str(block.as_str())?;
+        text.push_str(caller.as_str())?;
     }
     text.push_str("threads 16\n")?;
-    Ok(Some(text))
+    Ok(text)
 }
 
 // The place in the list that the answer to this buffer names.
@@ -47,31 +52,73 @@ fn additions(callers: &[Answers], buffer: usize) -> usize {
     count
 }
 
-// The place that all callers name for this buffer, if just one of them has added it.
-fn shared_place(callers: &[Answers], buffer: usize) -> Option<u64> {
-    let place = callers.first().and_then(|own| place_of(own, buffer));
-    let same = callers.iter().all(|own| place_of(own, buffer) == place);
-    if same && additions(callers, buffer) == 1 {
+// Whether all callers name this place for the buffer.
+fn all_name(callers: &[Answers], buffer: usize, place: u64) -> bool {
+    for own in callers {
+        if place_of(own, buffer) != Some(place) {
+            return false;
+        }
+    }
+    true
+}
+
+// The place that all callers name for this buffer, if just one of them has added it, or 0.
+fn shared_place(callers: &[Answers], buffer: usize) -> u64 {
+    let Some(own) = callers.first() else {
+        return 0;
+    };
+    let place = place_of(own, buffer).unwrap_or(0);
+    if all_name(callers, buffer, place) && additions(callers, buffer) == 1 {
         place
     } else {
-        None
+        0
     }
+}
+
+// Whether each buffer has a place other than 0 that is free, which it takes.
+fn each_takes_one(free: &mut [bool], callers: &[Answers]) -> bool {
+    for buffer in 0..BUFFERS {
+        let place = shared_place(callers, buffer);
+        let Some(is_free) = free.get_mut(place as usize) else {
+            return false;
+        };
+        if place == 0 || !*is_free {
+            return false;
+        }
+        *is_free = false;
+    }
+    true
 }
 
 // Whether each buffer has an entry of its own, which one caller has added and all others found.
 fn is_shared(alloc: Global, run: &BufferRun) -> Result<bool, OutOfMemory> {
     let mut free = vec![in alloc; true; run.list.len()]?;
-    for buffer in 0..BUFFERS {
-        let place = shared_place(run.answers.as_slice(), buffer).unwrap_or(0);
-        let Some(is_free) = free.get_mut(place as usize) else {
-            return Ok(false);
-        };
-        if place == 0 || !*is_free {
+    let each = each_takes_one(&mut free, &run.answers);
+    Ok(each && run.list.len() == BUFFERS.saturating_add(1))
+}
+
+// Whether each of the runs has such a list.
+fn runs_are_shared<R: Threads + Wait + Sync>(
+    rt: &R,
+    alloc: Global,
+    text: &BufferText,
+) -> Result<bool, OutOfMemory> {
+    for _ in 0..RUNS {
+        let run = measure_all(rt, alloc, text, &FreeGate)?;
+        if !is_shared(alloc, &run)? {
             return Ok(false);
         }
-        *is_free = false;
     }
-    Ok(run.list.len() == BUFFERS.saturating_add(1))
+    Ok(true)
+}
+
+// The callers of a text, which is short.
+fn callers_of(alloc: Global, text: &str) -> Result<BufferText, ScriptErr> {
+    let bytes = text.as_bytes();
+    if bytes.len() > 1_000_000 {
+        return Err(ScriptErr::OutOfMemory);
+    }
+    parse(alloc, bytes)
 }
 
 /// Whether 64 callers on 16 threads share one list: each of its entries but the first was added by
@@ -80,19 +127,23 @@ pub fn buffers_are_shared<R: Threads + Wait + Sync>(
     rt: &R,
     alloc: Global,
 ) -> Result<bool, ScriptErr> {
-    let Some(text) = text(alloc)? else {
-        return Ok(false);
-    };
-    let bytes = text.as_bytes();
-    if bytes.len() > 1_000_000 {
-        return Ok(false);
-    }
-    let callers = parse(alloc, bytes)?;
-    for _ in 0..RUNS {
-        let run = measure_all(rt, alloc, &callers, &FreeGate)?;
-        if !is_shared(alloc, &run)? {
-            return Ok(false);
-        }
-    }
-    Ok(true)
+    let text = text(alloc)?;
+    let callers = callers_of(alloc, text.as_str())?;
+    Ok(runs_are_shared(rt, alloc, &callers)?)
+}
+
+// Two callers, each of which measures a buffer of its own.
+const TWO: &str = "# meet\nimabuffers 1\n\
+    rule measure func=CRITICAL_DATA\n\
+    caller uid=0 euid=0 gid=0 egid=0\ncritical a txt:a\n\
+    caller uid=0 euid=0 gid=0 egid=0\ncritical b txt:b\n\
+    threads 2\n";
+
+/// Whether two callers that wait for each other before their first buffers meet there if
+/// `measure_all` is called without a command around it.
+pub fn callers_meet<R: Threads + Wait + Sync>(rt: &R, alloc: Global) -> Result<bool, ScriptErr> {
+    let gate = CaseGate::of(TWO);
+    let callers = callers_of(alloc, TWO)?;
+    let _run = measure_all(rt, alloc, &callers, &gate)?;
+    Ok(gate.is_well())
 }

@@ -1,5 +1,7 @@
 // A case of a family, and the check of an outcome against it.
+use crate::cuts::cut;
 use crate::outcome::Outcome;
+use std::str;
 
 /// One case, in the form of its text:
 ///
@@ -20,9 +22,11 @@ use crate::outcome::Outcome;
 /// text before it. The part `anywhere` is for lines whose order and numbers depend on how the
 /// threads' steps fall.
 ///
-/// A text that repeats itself is written short, as `spread` reads it. If the first line of an input
-/// is `# order TASK.CALL.STEP ..`, a gate fixes the order of these steps.
-#[derive(Clone, Copy, Debug)]
+/// A text that repeats itself is written short, as `spread` reads it. The first line of an input
+/// can name a gate: after `# order TASK.CALL.STEP ..` these steps come in this order, after
+/// `# exactly` the steps that pass are just these, and after `# meet` or `# apart` the first steps
+/// of two tasks, or two callers, wait for each other, and meet or don't.
+#[derive(Clone, Copy)]
 pub struct Case<'a> {
     pub name: &'a str,
     pub words: &'a str,
@@ -37,18 +41,20 @@ pub struct Case<'a> {
 impl<'a> Case<'a> {
     /// Parses the text of a case, which begins after the mark `>>> `.
     pub fn of(text: &'a str) -> Option<Case<'a>> {
-        let (name, rest) = text.split_once('\n')?;
-        let (words, rest) = rest.split_once('\n')?;
-        let (input, rest) = rest.split_once("--- ")?;
-        let (head, rest) = rest.split_once('\n')?;
-        let (form, status) = head.split_once(' ')?;
-        let (rest, note) = rest.split_once("--- notes\n").unwrap_or((rest, ""));
-        let (out, anywhere) = rest.split_once("--- anywhere\n").unwrap_or((rest, ""));
+        let (name, rest) = cut(text, "\n");
+        let (words, rest) = cut(rest, "\n");
+        let (input, rest) = cut(rest, "--- ");
+        let (head, rest) = cut(rest, "\n");
+        let (form, status) = cut(head, " ");
+        let (rest, note) = cut(rest, "--- notes\n");
+        let (out, anywhere) = cut(rest, "--- anywhere\n");
+        // There is no status if a mark before it isn't there.
+        let status = status.parse().ok()?;
         Some(Case {
             name,
             words,
             input,
-            status: status.parse().ok()?,
+            status,
             whole: form == "writes",
             out,
             anywhere,
@@ -58,41 +64,55 @@ impl<'a> Case<'a> {
 
     /// Whether the outcome meets the case.
     pub fn holds(&self, got: &Outcome) -> bool {
-        let out = if self.whole {
-            got.out.as_slice() == self.out.as_bytes()
-        } else {
-            has_lines(&got.out, self.out)
+        let told = got.status == self.status && got.note() == self.note.as_bytes();
+        told && self.is_written(got.out())
+    }
+
+    // Whether the output is that of the case.
+    fn is_written(&self, out: &[u8]) -> bool {
+        let Ok(text) = str::from_utf8(out) else {
+            return false;
         };
-        out && has_ends(&got.out, self.anywhere)
-            && got.status == self.status
-            && got.note.as_slice() == self.note.as_bytes()
+        let well = if self.whole {
+            text == self.out
+        } else {
+            has_lines(text, self.out)
+        };
+        well && has_ends(text, self.anywhere)
     }
 }
 
 // Whether the output has all of these lines, in this order.
-fn has_lines(out: &[u8], lines: &str) -> bool {
-    let mut wanted = lines.lines();
-    let mut next = wanted.next();
-    for line in out.split(|b| *b == b'\n') {
-        if next.is_some_and(|want| is_wanted(line, want)) {
-            next = wanted.next();
+fn has_lines(out: &str, lines: &str) -> bool {
+    let mut found = 0usize;
+    for line in out.split('\n') {
+        if is_line_at(lines, found, line) {
+            found = found.saturating_add(1);
         }
     }
-    next.is_none()
+    found == lines.lines().count()
+}
+
+// Whether the line is the wanted one of this place.
+fn is_line_at(lines: &str, place: usize, line: &str) -> bool {
+    match lines.lines().nth(place) {
+        Some(want) => is_wanted(line, want),
+        None => false,
+    }
 }
 
 // Whether the line is `want` or, if that has ` ..`, begins with the text before it.
-fn is_wanted(line: &[u8], want: &str) -> bool {
+fn is_wanted(line: &str, want: &str) -> bool {
     match want.split_once(" ..") {
-        Some((front, _)) => line.starts_with(front.as_bytes()),
-        None => want.as_bytes() == line,
+        Some((front, _)) => line.starts_with(front),
+        None => want == line,
     }
 }
 
 // Whether each of these is the end of some line of the output.
-fn has_ends(out: &[u8], ends: &str) -> bool {
+fn has_ends(out: &str, ends: &str) -> bool {
     for end in ends.lines() {
-        if !has_end(out, end.as_bytes()) {
+        if !has_end(out, end) {
             return false;
         }
     }
@@ -100,8 +120,8 @@ fn has_ends(out: &[u8], ends: &str) -> bool {
 }
 
 // Whether some line of the output ends in `end`.
-fn has_end(out: &[u8], end: &[u8]) -> bool {
-    for line in out.split(|b| *b == b'\n') {
+fn has_end(out: &str, end: &str) -> bool {
+    for line in out.split('\n') {
         if line.ends_with(end) {
             return true;
         }

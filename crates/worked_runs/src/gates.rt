@@ -1,169 +1,60 @@
-// Gates: one that sees which steps pass it, and one at which two tasks, or two callers, wait for
-// each other.
-use crate::outcome::answer_after;
-use buffer_measure::{measure_all, parse};
+// The gate of a case: one that fixes the order of some steps, one that sees which steps pass it, or
+// one at which two tasks, or two callers, wait for each other.
+use crate::cuts::{cut, number};
 use ima_io::{Gate, Who};
-use ima_top::DONE;
-use script_text::ScriptErr;
-use std::alloc::{AllocError as OutOfMemory, Global};
 use std::hint;
-use std::sync::Wait;
 use std::sync::atomic::{AtomicBool, AtomicUsize, Ordering};
-use std::thread::Threads;
 
 /// A step of a run: its task, its call and its number in the call.
-pub type Step = (u32, u32, u32);
+type Step = (u32, u32, u32);
 
 /// How often a task looks for another at most. That takes about a second, in which one on another
 /// thread comes; so the tasks that must not meet wait as long as those that must.
-pub const MOST_LOOKS: u64 = 100_000_000;
+const MOST_LOOKS: u64 = 100_000_000;
 
-// One task that opens, reads and closes a measured file.
-const READER: &str = "imakern 1\n\
-    fs magic=0xef53 uuid=00000000-0000-0000-0000-000000000001 name=ext4 versions\n\
-    file /a fs=0 ino=12 gen=1 uid=0 gid=0 mode=100644 content=txt:abc\n\
-    rule measure func=FILE_CHECK mask=MAY_READ\n\
-    task uid=0 euid=0 gid=0 egid=0\n\
-    open 0 /a r\nread 0 0 3\nclose 0\n";
-
-// A task that posts, and one that waits for it.
-const SIGNALS: &str = "imakern 1\n\
-    task uid=0 euid=0 gid=0 egid=0\npost 0\n\
-    task uid=0 euid=0 gid=0 egid=0\nwait 0\n";
-
-// Two callers, each of which measures a buffer of its own.
-const BUFFERS: &str = "imabuffers 1\n\
-    rule measure func=CRITICAL_DATA\n\
-    caller uid=0 euid=0 gid=0 egid=0\ncritical a txt:a\n\
-    caller uid=0 euid=0 gid=0 egid=0\ncritical b txt:b\n";
-
-// A caller whose buffers are measured, and one whose buffers aren't.
-const CALLERS: &str = "imabuffers 1\n\
-    rule measure func=CRITICAL_DATA uid=0\n\
-    caller uid=0 euid=0 gid=0 egid=0\ncritical a txt:a\ncritical a txt:a\n\
-    caller uid=1 euid=0 gid=0 egid=0\ncritical b txt:b\n";
-
-// Two tasks that post.
-const POSTS: &str = "imakern 1\n\
-    task uid=0 euid=0 gid=0 egid=0\npost 0\n\
-    task uid=0 euid=0 gid=0 egid=0\npost 0\n";
-
-// Sees whether it is passed by these steps, in order.
-#[derive(Drop)]
-struct Watch<'a> {
-    steps: &'a [Step],
-    at: AtomicUsize,
-    other: AtomicBool,
+// The step of a word TASK.CALL.STEP. A word of another form has a number that no step has.
+fn step_of(word: &str) -> Step {
+    let (task, rest) = cut(word, ".");
+    let (call, step) = cut(rest, ".");
+    (number(task), number(call), number(step))
 }
 
-impl Gate for Watch<'_> {
-    fn pass(&self, who: Who) {
-        let at = self.at.fetch_add(1, Ordering::SeqCst);
-        let due = self.steps.get(at).copied();
-        if due != Some((who.task, who.call, who.step)) {
-            self.other.store(true, Ordering::SeqCst);
+// Whether each of the words has the form of a step.
+fn are_steps(words: &str) -> bool {
+    for word in words.split_whitespace() {
+        let (task, call, step) = step_of(word);
+        if task == u32::MAX || call == u32::MAX || step == u32::MAX {
+            return false;
         }
     }
+    true
 }
 
-// Whether the command's run of this text, with this ending, passes its gate by these steps.
-fn is_passed_by<R: Threads + Wait + Sync>(
-    rt: &R,
-    alloc: Global,
-    words: &str,
-    script: &str,
-    ending: &str,
-    steps: &[Step],
-) -> Result<bool, OutOfMemory> {
-    let gate = Watch {
-        steps,
-        at: AtomicUsize::new(0),
-        other: AtomicBool::new(false),
-    };
-    let input = format!(in alloc; "{script}{ending}\n")?;
-    let got = answer_after(rt, alloc, words, input.as_bytes(), &gate)?;
-    let all = gate.at.load(Ordering::SeqCst) == steps.len();
-    Ok(got.status == DONE && all && !gate.other.load(Ordering::SeqCst))
+// Whether the step is of the same task as the other, and after it.
+fn is_later(step: Step, other: Step) -> bool {
+    let (task, call, number) = step;
+    let (its, its_call, its_number) = other;
+    task == its && (call > its_call || (call == its_call && number > its_number))
 }
 
-/// Whether each turn of a task whose program isn't over passes the gate before it: a blocked one
-/// too, and none after the last call.
-pub fn turns_pass<R: Threads + Wait + Sync>(rt: &R, alloc: Global) -> Result<bool, OutOfMemory> {
-    let open = [
-        (0, 0, 0),
-        (0, 0, 1),
-        (0, 0, 2),
-        (0, 0, 3),
-        (0, 0, 4),
-        (0, 1, 0),
-        (0, 2, 0),
-    ];
-    let rows: [(&str, &str, &[Step]); 5] = [
-        (READER, "rounds", &open),
-        (READER, "threads 1", &open),
-        (READER, "schedule 0 0 0", &[(0, 0, 0), (0, 0, 1), (0, 0, 2)]),
-        (
-            SIGNALS,
-            "schedule 1 1 0 0 1 1",
-            &[(1, 0, 0), (1, 0, 0), (0, 0, 0), (1, 0, 0)],
-        ),
-        (SIGNALS, "rounds", &[(0, 0, 0), (1, 0, 0)]),
-    ];
-    for (script, ending, steps) in rows {
-        if !is_passed_by(rt, alloc, "run", script, ending, steps)? {
-            return Ok(false);
+// The step at this place among the words.
+fn step_at(words: &str, at: usize) -> Option<Step> {
+    match words.split_whitespace().nth(at) {
+        Some(word) => Some(step_of(word)),
+        None => None,
+    }
+}
+
+// The place of the step among the words.
+fn place_of(words: &str, step: Step) -> Option<usize> {
+    let mut place = 0usize;
+    for word in words.split_whitespace() {
+        if step_of(word) == step {
+            return Some(place);
         }
+        place = place.saturating_add(1);
     }
-    Ok(true)
-}
-
-/// Whether each buffer passes the gate before it is measured, also one that no rule wants measured.
-pub fn buffers_pass<R: Threads + Wait + Sync>(rt: &R, alloc: Global) -> Result<bool, OutOfMemory> {
-    let steps = [(0, 0, 0), (0, 1, 0), (1, 0, 0)];
-    is_passed_by(rt, alloc, "buffers", CALLERS, "threads 1", &steps)
-}
-
-// Lets the first step of each of two tasks wait for that of the other.
-#[derive(Drop)]
-struct Meeting {
-    first: AtomicBool,
-    second: AtomicBool,
-    missed: AtomicBool,
-}
-
-impl Meeting {
-    // Before either comes.
-    fn new() -> Meeting {
-        Meeting {
-            first: AtomicBool::new(false),
-            second: AtomicBool::new(false),
-            missed: AtomicBool::new(false),
-        }
-    }
-
-    // Sets the one flag, and waits for the other.
-    fn meet(&self, own: &AtomicBool, other: &AtomicBool) {
-        own.store(true, Ordering::SeqCst);
-        if !sees(other) {
-            self.missed.store(true, Ordering::SeqCst);
-        }
-    }
-
-    // Whether each saw the other. None if one of them didn't come.
-    fn is_met(&self) -> Option<bool> {
-        let both = self.first.load(Ordering::SeqCst) && self.second.load(Ordering::SeqCst);
-        both.then_some(!self.missed.load(Ordering::SeqCst))
-    }
-}
-
-impl Gate for Meeting {
-    fn pass(&self, who: Who) {
-        match (who.task, who.call, who.step) {
-            (0, 0, 0) => self.meet(&self.first, &self.second),
-            (1, 0, 0) => self.meet(&self.second, &self.first),
-            _ => {}
-        }
-    }
+    None
 }
 
 /// Whether the flag is set before the last look at it.
@@ -177,56 +68,153 @@ pub fn sees(flag: &AtomicBool) -> bool {
     false
 }
 
-/// Whether two tasks that wait for each other before their first steps meet there. None if the run
-/// doesn't end well, or a task doesn't come to the gate.
-pub fn tasks_meet<R: Threads + Wait + Sync>(
-    rt: &R,
-    alloc: Global,
-    ending: &str,
-) -> Result<Option<bool>, OutOfMemory> {
-    meet(rt, alloc, "run", POSTS, ending)
+// What a gate is for.
+#[derive(Clone, Copy)]
+enum Kind {
+    // Nothing: each step passes.
+    Free,
+    // Each of the steps is held until the one before it is done, which shows by that one's task
+    // coming back to the gate. So a step of one task waits at the gate for a step of another: if a
+    // lock were held there that the other needs, the wait would be in vain.
+    Order,
+    // The steps that pass are just these, in this order.
+    Exactly,
+    // The first step of each of two tasks waits for that of the other, and both come.
+    Meet,
+    // The same, but one of them waits in vain.
+    Apart,
 }
 
-/// Whether two callers that wait for each other before their first buffers meet there. None if the
-/// run doesn't end well, or a caller doesn't come to the gate.
-pub fn callers_meet<R: Threads + Wait + Sync>(
-    rt: &R,
-    alloc: Global,
-    ending: &str,
-) -> Result<Option<bool>, OutOfMemory> {
-    meet(rt, alloc, "buffers", BUFFERS, ending)
+/// The gate of a run.
+#[derive(Drop)]
+pub struct CaseGate<'a> {
+    kind: Kind,
+    // The words of its steps.
+    steps: &'a str,
+    // How many of them are done.
+    done: AtomicUsize,
+    // Whether the first of two tasks came, and the second.
+    first: AtomicBool,
+    second: AtomicBool,
+    // A step was held in vain, isn't the one that is due, or has no form. From then on none is
+    // held.
+    missed: AtomicBool,
 }
 
-/// Whether they meet if `measure_all` is called without a command around it.
-pub fn measured_callers_meet<R: Threads + Wait + Sync>(
-    rt: &R,
-    alloc: Global,
-    ending: &str,
-) -> Result<Option<bool>, ScriptErr> {
-    let gate = Meeting::new();
-    let input = format!(in alloc; "{BUFFERS}{ending}\n")?;
-    let bytes = input.as_bytes();
-    if bytes.len() > 1_000_000 {
-        return Ok(None);
+impl<'a> CaseGate<'a> {
+    /// The gate that the first line of an input names.
+    pub fn of(input: &'a str) -> CaseGate<'a> {
+        let (line, _) = cut(input, "\n");
+        let (mark, steps) = cut(line.strip_prefix("# ").unwrap_or(""), " ");
+        let kind = match mark {
+            "order" => Kind::Order,
+            "exactly" => Kind::Exactly,
+            "meet" => Kind::Meet,
+            "apart" => Kind::Apart,
+            _ => Kind::Free,
+        };
+        CaseGate {
+            kind,
+            steps,
+            done: AtomicUsize::new(0),
+            first: AtomicBool::new(false),
+            second: AtomicBool::new(false),
+            missed: AtomicBool::new(!are_steps(steps)),
+        }
     }
-    let text = parse(alloc, bytes)?;
-    let _run = measure_all(rt, alloc, &text, &gate)?;
-    Ok(gate.is_met())
+
+    /// Whether the steps came as the gate wants it.
+    pub fn is_well(&self) -> bool {
+        let missed = self.missed.load(Ordering::SeqCst);
+        match self.kind {
+            Kind::Free => true,
+            Kind::Order | Kind::Exactly => self.are_done() && !missed,
+            Kind::Meet => self.both_came() && !missed,
+            Kind::Apart => self.both_came() && missed,
+        }
+    }
+
+    // Whether all the steps are done.
+    fn are_done(&self) -> bool {
+        self.done.load(Ordering::SeqCst) == self.steps.split_whitespace().count()
+    }
+
+    // Whether each of two tasks came.
+    fn both_came(&self) -> bool {
+        self.first.load(Ordering::SeqCst) && self.second.load(Ordering::SeqCst)
+    }
+
+    // Notes that something isn't as it is wanted.
+    fn miss(&self) {
+        self.missed.store(true, Ordering::SeqCst);
+    }
+
+    // Takes the step as the due one, or notes that it is another.
+    fn take(&self, step: Step) {
+        let at = self.done.fetch_add(1, Ordering::SeqCst);
+        if step_at(self.steps, at) != Some(step) {
+            self.miss();
+        }
+    }
+
+    // Sets the one flag, and waits for the other.
+    fn meet(&self, own: &AtomicBool, other: &AtomicBool) {
+        own.store(true, Ordering::SeqCst);
+        if !sees(other) {
+            self.miss();
+        }
+    }
+
+    // Lets the first step of each of two tasks wait for that of the other.
+    fn pair(&self, step: Step) {
+        match step {
+            (0, 0, 0) => self.meet(&self.first, &self.second),
+            (1, 0, 0) => self.meet(&self.second, &self.first),
+            _ => (),
+        }
+    }
+
+    // Notes that the due step is done if its task comes with a later one.
+    fn note(&self, step: Step) {
+        let done = self.done.load(Ordering::SeqCst);
+        if let Some(due) = step_at(self.steps, done)
+            && is_later(step, due)
+        {
+            self.done.fetch_add(1, Ordering::SeqCst);
+        }
+    }
+
+    // Waits until so many steps are done. Answers whether they are.
+    fn comes_to(&self, place: usize) -> bool {
+        for _ in 0..MOST_LOOKS {
+            if self.done.load(Ordering::SeqCst) == place {
+                return true;
+            }
+            hint::spin_loop();
+        }
+        false
+    }
+
+    // Holds the step until the one before it is done.
+    fn hold(&self, step: Step) {
+        self.note(step);
+        if let Some(place) = place_of(self.steps, step)
+            && !self.missed.load(Ordering::SeqCst)
+            && !self.comes_to(place)
+        {
+            self.miss();
+        }
+    }
 }
 
-// Whether the two meet in the command's run of this text, with this ending.
-fn meet<R: Threads + Wait + Sync>(
-    rt: &R,
-    alloc: Global,
-    words: &str,
-    text: &str,
-    ending: &str,
-) -> Result<Option<bool>, OutOfMemory> {
-    let gate = Meeting::new();
-    let input = format!(in alloc; "{text}{ending}\n")?;
-    let got = answer_after(rt, alloc, words, input.as_bytes(), &gate)?;
-    if got.status != DONE {
-        return Ok(None);
+impl Gate for CaseGate<'_> {
+    fn pass(&self, who: Who) {
+        let step = (who.task, who.call, who.step);
+        match self.kind {
+            Kind::Free => (),
+            Kind::Order => self.hold(step),
+            Kind::Exactly => self.take(step),
+            Kind::Meet | Kind::Apart => self.pair(step),
+        }
     }
-    Ok(gate.is_met())
 }

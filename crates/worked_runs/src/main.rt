@@ -15,37 +15,39 @@
 //! differ from a plain one. A case that is `accepted` has no end, and so is refused for that alone,
 //! on the line after its last.
 //!
-//! `spread` and `cases` read a family, `outcome` calls `serve`, `orders` fixes the order in which
-//! the steps of threads come, and `faults` cuts the input of the first case short, fails its reads
-//! and writes, and makes it too long. `gates` watches the steps of runs, and lets two tasks wait
-//! for each other; `callers` has 64 callers measure the same buffers on 16 threads; `locks` makes
-//! steps on one file while another is held. A line is printed for each case, and the status is 1 if
-//! one differs.
+//! `spread`, `cuts` and `cases` read a family, `outcome` calls `serve`, and `gates` has the gates
+//! that the first line of an input names: one that fixes the order in which the steps of threads
+//! come, one that sees which steps pass it, and one at which two tasks or callers wait for each
+//! other. `faults` cuts the input of the first case short, fails its reads and writes, and makes it
+//! too long; `callers` has 64 callers measure the same buffers on 16 threads; `locks` makes steps
+//! on one file while another is held. A line is printed for each case, and the status is 1 if one
+//! differs.
 #![tactic(auto)]
 
 mod callers;
 mod cases;
+mod cuts;
 mod faults;
 mod gates;
 mod locks;
-mod orders;
 mod outcome;
 mod spread;
 mod start;
 
 use crate::cases::Case;
-use crate::gates::Step;
-use crate::orders::Order;
-use crate::outcome::Outcome;
-use anyhow::{Context, Result, ensure};
-use std::alloc::{AllocError as OutOfMemory, Global};
-use std::fs;
+use crate::faults::FAULTS;
+use crate::gates::CaseGate;
+use crate::outcome::{Outcome, SOUND, answer_over};
+use crate::spread::spread;
+use std::alloc::Global;
+use std::io::{Error, ErrorKind};
 use std::sync::Wait;
 use std::thread::Threads;
+use std::{fs, io, str};
 
-// The families, and how often each of their cases is run. Those of the last one run on threads,
-// and the order of their steps is fixed, so the whole report is the same however the threads fall.
-const FAMILIES: [(&str, u32); 28] = [
+// The families, and how often each of their cases is run. Those of `repeats` run on threads, and
+// the order of their steps is fixed, so the whole report is the same however the threads fall.
+const FAMILIES: [(&str, u32); 29] = [
     ("measuring", 1),
     ("violations", 1),
     ("appraisal", 1),
@@ -74,137 +76,155 @@ const FAMILIES: [(&str, u32); 28] = [
     ("threads", 1),
     ("orders", 1),
     ("repeats", 1000),
+    ("gates", 1),
 ];
 
-fn main(rt: HostRuntime) -> Result<()> {
-    let mut differ = false;
-    for (family, times) in FAMILIES {
-        let name = format!(in rt.alloc(); "{family}.cases")?;
-        let text = fs::read_to_string(&rt, name.as_str()).context(family)?;
-        let well = family_holds(&rt, rt.alloc(), family, times, text.as_str())?;
-        differ = differ || !well;
+fn main(rt: HostRuntime) -> io::Result<()> {
+    let mut all = true;
+    for (family, times) in &FAMILIES {
+        let text = text_of(&rt, family)?;
+        all = family_holds(&rt, rt.alloc(), family, *times, &text)? && all;
     }
-    let text = fs::read_to_string(&rt, "measuring.cases")?;
-    let faults = faults_hold(&rt, rt.alloc(), text.as_str())?;
-    let gates = gates_hold(&rt, rt.alloc())?;
-    let callers = callers_hold(&rt, rt.alloc())?;
-    let apart = locks::inodes_are_apart(&rt, rt.alloc()).unwrap_or(false);
-    let locks = rows_hold(&rt, "locks", &[("each file has its own", apart)])?;
-    ensure!(
-        faults && gates && callers && locks && !differ,
-        "not as it should be"
-    );
-    Ok(())
+    let text = text_of(&rt, "measuring")?;
+    if others_hold(&rt, rt.alloc(), &text)? && all {
+        Ok(())
+    } else {
+        Err(Error::from(ErrorKind::Other))
+    }
 }
 
-// Runs the case so often, with these steps in their order, and gives the first outcome that
-// differs or whose steps came in another order.
-fn first_other<R: Threads + Wait + Sync>(
-    rt: &R,
-    alloc: Global,
-    case: &Case<'_>,
-    steps: &[Step],
-    times: u32,
-) -> Result<Option<Outcome>, OutOfMemory> {
-    for _ in 0..times {
-        let gate = Order::of(steps);
-        let input = case.input.as_bytes();
-        let got = outcome::answer_after(rt, alloc, case.words, input, &gate)?;
-        if !case.holds(&got) || !gate.is_held() {
-            return Ok(Some(got));
-        }
-    }
-    Ok(None)
+// The text of the family's file.
+fn text_of(rt: &HostRuntime, family: &str) -> io::Result<String> {
+    let name = format!(in rt.alloc(); "{family}.cases")?;
+    fs::read_to_string(rt, name.as_str())
 }
 
-// Runs each case of the family `times` times, prints a line for each, and returns whether all hold.
+// Runs each case of the family `times` times, and returns whether all hold.
 fn family_holds<R: Print + Threads + Wait + Sync>(
     rt: &R,
     alloc: Global,
     family: &str,
     times: u32,
     text: &str,
-) -> Result<bool> {
+) -> io::Result<bool> {
     let mut all = true;
     for part in text.split(">>> ").skip(1) {
-        let part = spread::spread(alloc, part)?.context("a text is not in its form")?;
-        let case = Case::of(part.as_str()).context("a case is not in its form")?;
-        let steps = orders::steps_of(alloc, case.input)?.context("no order of steps")?;
-        match first_other(rt, alloc, &case, steps.as_slice(), times)? {
-            None => println!(rt; "{family}: {}", case.name)?,
-            Some(got) => {
-                all = false;
-                println!(rt; "{family}: {}: DIFFERS: {}", case.name, got.status)?;
-                println!(rt; "{}{}", text_of(&got.out), text_of(&got.note))?;
-            }
+        all = part_holds(rt, alloc, family, times, part)? && all;
+    }
+    Ok(all)
+}
+
+// Runs the case of this text, which may repeat itself.
+fn part_holds<R: Print + Threads + Wait + Sync>(
+    rt: &R,
+    alloc: Global,
+    family: &str,
+    times: u32,
+    text: &str,
+) -> io::Result<bool> {
+    let Some(whole) = spread(alloc, text)? else {
+        return row(rt, family, text, false);
+    };
+    text_holds(rt, alloc, family, times, whole.as_str())
+}
+
+// Runs the case of this text so often.
+fn text_holds<R: Print + Threads + Wait + Sync>(
+    rt: &R,
+    alloc: Global,
+    family: &str,
+    times: u32,
+    text: &str,
+) -> io::Result<bool> {
+    let Some(case) = Case::of(text) else {
+        return row(rt, family, text, false);
+    };
+    for _ in 0..times {
+        if !case_holds(rt, alloc, family, &case)? {
+            return Ok(false);
         }
     }
-    Ok(all)
+    row(rt, family, case.name, true)
 }
 
-fn text_of(bytes: &[u8]) -> &str {
-    std::str::from_utf8(bytes).unwrap_or("bytes that are no text")
-}
-
-// Prints a line for each row, and returns whether all rows hold.
-fn rows_hold<R: Print>(rt: &R, family: &str, rows: &[(&str, bool)]) -> Result<bool> {
-    let mut all = true;
-    for (name, holds) in rows {
-        all = all && *holds;
-        println!(rt; "{family}: {name}{}", if *holds { "" } else { ": DIFFERS" })?;
+// Runs the case once, and prints what it answers if it differs.
+fn case_holds<R: Print + Threads + Wait + Sync>(
+    rt: &R,
+    alloc: Global,
+    family: &str,
+    case: &Case<'_>,
+) -> io::Result<bool> {
+    let gate = CaseGate::of(case.input);
+    let input = case.input.as_bytes();
+    let got = answer_over(rt, alloc, case.words, input, SOUND, &gate)?;
+    if case.holds(&got) && gate.is_well() {
+        return Ok(true);
     }
-    Ok(all)
+    tell(rt, family, case.name, &got)?;
+    Ok(false)
 }
 
-// Tries the faults on the first case of the family.
+// Prints an outcome that differs.
+fn tell(rt: &impl Print, family: &str, name: &str, got: &Outcome) -> io::Result<()> {
+    println!(rt; "{family}: {name}: DIFFERS: {}", got.status)?;
+    println!(rt; "{}{}", shown(got.out()), shown(got.note()))
+}
+
+// The text that the bytes are.
+fn shown(bytes: &[u8]) -> &str {
+    str::from_utf8(bytes).unwrap_or("bytes that are no text")
+}
+
+// Prints a line, and returns whether the case holds.
+fn row(rt: &impl Print, family: &str, name: &str, holds: bool) -> io::Result<bool> {
+    println!(rt; "{family}: {name}{}", if holds { "" } else { ": DIFFERS" })?;
+    Ok(holds)
+}
+
+// Whether all else holds: the faults, the callers and the files.
+fn others_hold<R: Print + Threads + Wait + Sync>(
+    rt: &R,
+    alloc: Global,
+    text: &str,
+) -> io::Result<bool> {
+    let faults = faults_hold(rt, alloc, text)?;
+    let callers = callers_hold(rt, alloc)?;
+    Ok(faults && callers)
+}
+
+// Tries the faults on the first case of this text.
 fn faults_hold<R: Print + Threads + Wait + Sync>(
     rt: &R,
     alloc: Global,
     text: &str,
-) -> Result<bool> {
-    let first = text.split(">>> ").nth(1).context("no case")?;
-    let case = Case::of(first).context("a case is not in its form")?;
-    let tried = faults::Tried::of(rt, alloc, &case)?;
-    let rows = [
-        ("a read that fails", tried.reads),
-        ("a write that fails", tried.writes),
-        ("an output with too little room", tried.rooms),
-        ("a note that fails", tried.notes),
-        ("a script that is cut short", tried.cuts),
-        ("an input at its limit", tried.limits),
-        ("words that are no command", tried.words),
-    ];
-    rows_hold(rt, "faults", &rows)
+) -> io::Result<bool> {
+    match Case::of(text.split(">>> ").nth(1).unwrap_or("")) {
+        Some(case) => all_faults_hold(rt, alloc, &case),
+        None => row(rt, "faults", "the first case", false),
+    }
 }
 
-// Checks the gates, and prints a line for each property.
-fn gates_hold<R: Print + Threads + Wait + Sync>(rt: &R, alloc: Global) -> Result<bool> {
-    let turns = gates::turns_pass(rt, alloc)?;
-    let two = gates::tasks_meet(rt, alloc, "threads 2")?;
-    let one = gates::tasks_meet(rt, alloc, "threads 1")?;
-    let rounds = gates::tasks_meet(rt, alloc, "rounds")?;
-    let rows = [
-        ("each turn passes one", turns),
-        ("two tasks meet on two threads", two == Some(true)),
-        ("they don't on one thread", one == Some(false)),
-        ("they don't in rounds", rounds == Some(false)),
-    ];
-    rows_hold(rt, "gates", &rows)
+// Tries the faults on the case.
+fn all_faults_hold<R: Print + Threads + Wait + Sync>(
+    rt: &R,
+    alloc: Global,
+    case: &Case<'_>,
+) -> io::Result<bool> {
+    let mut all = true;
+    for (name, fault) in &FAULTS {
+        let well = faults::holds(rt, alloc, case, *fault)?;
+        all = row(rt, "faults", name, well)? && all;
+    }
+    Ok(all)
 }
 
-// Checks how callers of buffers run side by side, and prints a line for each property.
-fn callers_hold<R: Print + Threads + Wait + Sync>(rt: &R, alloc: Global) -> Result<bool> {
-    let buffers = gates::buffers_pass(rt, alloc)?;
-    let two = gates::callers_meet(rt, alloc, "threads 2")?;
-    let one = gates::callers_meet(rt, alloc, "threads 1")?;
-    let alone = gates::measured_callers_meet(rt, alloc, "threads 2").unwrap_or(None);
+// Checks how callers of buffers run side by side, and that files are apart.
+fn callers_hold<R: Print + Threads + Wait + Sync>(rt: &R, alloc: Global) -> io::Result<bool> {
+    let alone = callers::callers_meet(rt, alloc).unwrap_or(false);
     let shared = callers::buffers_are_shared(rt, alloc).unwrap_or(false);
-    let rows = [
-        ("each buffer passes a gate", buffers),
-        ("two of them meet on two threads", two == Some(true)),
-        ("they don't on one thread", one == Some(false)),
-        ("two of them meet without a command", alone == Some(true)),
-        ("64 of them measure the same buffers", shared),
-    ];
-    rows_hold(rt, "callers", &rows)
+    let apart = locks::inodes_are_apart(rt, alloc).unwrap_or(false);
+    let alone = row(rt, "callers", "two of them meet without a command", alone)?;
+    let shared = row(rt, "callers", "64 of them measure the same buffers", shared)?;
+    let apart = row(rt, "locks", "each file has its own", apart)?;
+    Ok(alone && shared && apart)
 }

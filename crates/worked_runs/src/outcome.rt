@@ -1,86 +1,134 @@
-// Calls `serve` with words and an input in memory.
+// Calls `serve` with words and streams in memory.
 use ima_io::{FreeGate, Gate, MemSink, MemSource};
 use ima_top::serve;
 use std::alloc::{AllocError as OutOfMemory, Global};
 use std::sync::Wait;
 use std::thread::Threads;
 
+/// How the streams of a call behave. A call of a stream that fails has its number, from 0 on.
+#[derive(Clone, Copy)]
+pub struct Streams {
+    /// The most bytes that a call of the source gives.
+    pub given: usize,
+    /// The call of the source that fails.
+    pub read: u64,
+    /// The output's room.
+    pub room: usize,
+    /// The most bytes that a call of the output takes.
+    pub taken: usize,
+    /// The call of the output that fails.
+    pub write: u64,
+    /// The call of the note that fails.
+    pub tell: u64,
+}
+
+/// The number of no call.
+pub const NEVER: u64 = u64::MAX;
+
+/// Streams with room, of which no call fails.
+pub const SOUND: Streams = Streams {
+    given: 4096,
+    read: NEVER,
+    room: 2_000_000,
+    taken: 4096,
+    write: NEVER,
+    tell: NEVER,
+};
+
 /// What a command did: its exit status, its output and its note.
 #[derive(Drop)]
 pub struct Outcome {
     pub status: u8,
-    pub out: Vec<u8>,
-    pub note: Vec<u8>,
+    out: MemSink,
+    note: MemSink,
 }
 
 impl Outcome {
+    /// The output.
+    pub fn out(&self) -> &[u8] {
+        self.out.taken()
+    }
+
+    /// The note.
+    pub fn note(&self) -> &[u8] {
+        self.note.taken()
+    }
+
     /// Whether the outcome has this status, this output and this note.
     pub fn is(&self, status: u8, out: &[u8], note: &str) -> bool {
-        self.status == status
-            && self.out.as_slice() == out
-            && self.note.as_slice() == note.as_bytes()
+        self.status == status && self.out() == out && self.note() == note.as_bytes()
     }
 }
 
-/// An empty list of failing calls, for a source or a sink that never fails.
-pub fn none(alloc: Global) -> Vec<u64> {
-    Vec::new(alloc)
+// A source of this input.
+fn source(alloc: Global, input: &[u8], streams: Streams) -> Result<MemSource, OutOfMemory> {
+    let bytes = input.to_vec(alloc)?;
+    let fails = vec![in alloc; streams.read]?;
+    Ok(MemSource::new(bytes, streams.given.max(1), fails))
 }
 
-/// The outcome of the words on this input, if no read or write fails.
-pub fn answer<R: Threads + Wait + Sync>(
-    rt: &R,
-    alloc: Global,
-    words: &str,
-    input: &[u8],
-) -> Result<Outcome, OutOfMemory> {
-    answer_after(rt, alloc, words, input, &FreeGate)
+// A sink that has taken nothing.
+fn sink(alloc: Global, room: usize, piece: usize, fail: u64) -> Result<MemSink, OutOfMemory> {
+    MemSink::new(alloc, room, piece.max(1), vec![in alloc; fail]?)
 }
 
-/// The outcome of the words on this input, if each turn of a task passes this gate first.
-pub fn answer_after<G: Gate + Sync, R: Threads + Wait + Sync>(
-    rt: &R,
-    alloc: Global,
-    words: &str,
-    input: &[u8],
-    gate: &G,
-) -> Result<Outcome, OutOfMemory> {
-    let mut script = MemSource::new(input.to_vec(alloc)?, 4096, none(alloc));
-    let out = MemSink::new(alloc, 2_000_000, 4096, none(alloc))?;
-    let note = MemSink::new(alloc, 200, 200, none(alloc))?;
-    served_after(rt, alloc, words, &mut script, out, note, gate)
+// The outcome before anything was done.
+fn nothing(alloc: Global, streams: Streams) -> Result<Outcome, OutOfMemory> {
+    let out = sink(alloc, streams.room, streams.taken, streams.write)?;
+    let note = sink(alloc, 200, 200, streams.tell)?;
+    Ok(Outcome {
+        status: 0,
+        out,
+        note,
+    })
 }
 
-/// The outcome of the words, which spaces separate, over this source and these sinks.
-pub fn served<R: Threads + Wait + Sync>(
-    rt: &R,
-    alloc: Global,
-    words: &str,
-    script: &mut MemSource,
-    out: MemSink,
-    note: MemSink,
-) -> Result<Outcome, OutOfMemory> {
-    served_after(rt, alloc, words, script, out, note, &FreeGate)
-}
-
-// The outcome of the words over this source and these sinks, with this gate.
-fn served_after<G: Gate + Sync, R: Threads + Wait + Sync>(
-    rt: &R,
-    alloc: Global,
-    words: &str,
-    script: &mut MemSource,
-    mut out: MemSink,
-    mut note: MemSink,
-    gate: &G,
-) -> Result<Outcome, OutOfMemory> {
+// The words, which spaces separate.
+fn words_of(alloc: Global, words: &str) -> Result<Vec<String>, OutOfMemory> {
     let mut list = Vec::new(alloc);
-    for word in words.split(' ').filter(|word| !word.is_empty()) {
+    for word in words.split_whitespace() {
         list.push(String::from_str(alloc, word)?)?;
     }
-    let status = serve(rt, alloc, &list, script, &mut out, &mut note, gate);
-    Ok(Outcome {
-        status,
-        out: out.taken().to_vec(alloc)?,
-        note: note.taken().to_vec(alloc)?,
-    })
+    Ok(list)
+}
+
+// Serves the words.
+fn serve_words<G: Gate + Sync, R: Threads + Wait + Sync>(
+    rt: &R,
+    alloc: Global,
+    words: &[String],
+    script: &mut MemSource,
+    did: &mut Outcome,
+    gate: &G,
+) {
+    did.status = serve(rt, alloc, words, script, &mut did.out, &mut did.note, gate);
+}
+
+/// The outcome of the words on this input over such streams, if each step passes this gate first.
+pub fn answer_over<G: Gate + Sync, R: Threads + Wait + Sync>(
+    rt: &R,
+    alloc: Global,
+    words: &str,
+    input: &[u8],
+    streams: Streams,
+    gate: &G,
+) -> Result<Outcome, OutOfMemory> {
+    let words = words_of(alloc, words)?;
+    let mut script = source(alloc, input, streams)?;
+    let mut did = nothing(alloc, streams)?;
+    serve_words(rt, alloc, &words, &mut script, &mut did, gate);
+    Ok(did)
+}
+
+/// Whether the words have this outcome on this input, over such streams.
+pub fn answers<R: Threads + Wait + Sync>(
+    rt: &R,
+    alloc: Global,
+    words: &str,
+    input: &[u8],
+    streams: Streams,
+    wanted: (u8, &[u8], &str),
+) -> Result<bool, OutOfMemory> {
+    let did = answer_over(rt, alloc, words, input, streams, &FreeGate)?;
+    Ok(did.is(wanted.0, wanted.1, wanted.2))
 }
