@@ -4,8 +4,9 @@
 ghost use Rattle.std.specs.Prelude.{◌≡◌, ◌≢◌, IfOk};
 ghost use Rattle.grow_list.specs.Shown.{fresh};
 
-use hash_algos::{Algo, Digest};
-use ima_templates::{Entry, Placed, build, can_show, violation};
+use crate::checks::{holds, is_same};
+use crate::entries::{entry, violation_of_a};
+use ima_templates::{Entry, Placed};
 use inode_meta::Template;
 use measure_book::registers::Bank;
 use measure_book::{Book, Pass};
@@ -13,40 +14,11 @@ use std::alloc::{AllocError as OutOfMemory, Global};
 use std::marker::{Brand, Model, PhantomData};
 use std::process::Abort;
 use std::sync::{Mutex, Wait};
-use std::test::Fail;
-
-const ABC_SHA256: &[u8; 32] =
-    b"\xba\x78\x16\xbf\x8f\x01\xcf\xea\x41\x41\x40\xde\x5d\xae\x22\x23\xb0\x03\x61\xa3\x96\x17\x7a\x9c\xb4\x10\xff\x61\xf2\x00\x15\xad";
 
 // Register 10 in the bank of SHA-1 after the boot aggregate and the file `/a` with the content
 // `abc`.
-const AFTER_A: &[u8; 20] =
+const AFTER_A: &[u8] =
     b"\x4f\x63\x19\x86\xc6\xd9\x74\xb0\x55\x63\x28\xcf\x14\x28\x52\xf2\x83\x35\x70\x5c";
-
-// The entry of a path, with a digest of all zeros or of the content `abc`.
-fn entry(
-    rt: &impl Abort,
-    alloc: Global,
-    content: &[u8],
-    path: &[u8],
-) -> Result<Entry, OutOfMemory> {
-    let file = if content == b"abc".as_slice() {
-        Digest::from_slice(Algo::Sha256, ABC_SHA256)
-    } else {
-        Some(Digest::zeros(Algo::Sha256))
-    };
-    let file = file.expect(rt, "a digest of SHA-256");
-    assert!(rt; can_show(Template::ImaNg, path));
-    build(
-        alloc,
-        10,
-        Template::ImaNg,
-        &file,
-        &Digest::zeros(Algo::Sha1),
-        path,
-        b"",
-    )
-}
 
 // A book of three callers, and the passes of two of them.
 fn start_three(
@@ -55,7 +27,7 @@ fn start_three(
 ) -> Result<(Book, Pass<Entry>, Pass<Entry>), OutOfMemory>
     ensures { IfOk result (λ r. (r.1.name ≡ r.0.name) × (r.2.name ≡ r.0.name)) }
 {
-    let boot = entry(rt, alloc, b"", b"boot_aggregate")?;
+    let boot = entry(rt, alloc, 10, Template::ImaNg, b"", b"boot_aggregate", b"")?;
     let (book, mut passes) = Book::start(alloc, 3, boot)?;
     let Some(second) = passes.pop() else {
         unreachable!()
@@ -64,6 +36,21 @@ fn start_three(
         unreachable!()
     };
     Ok((book, first, second))
+}
+
+// Adds an entry in room of its own.
+fn add(book: &mut Book, pass: &mut Pass<Entry>, e: Entry) -> Result<Placed, OutOfMemory>
+    requires { pass.old.name ≡ book.old.name }
+    ensures { (book.new.name ≡ book.old.name) × (pass.new.name ≡ pass.old.name) }
+{
+    book.reserve()?;
+    Ok(book.add(pass, e))
+}
+
+// The entry of the path `/f` followed by the number.
+fn file(rt: &impl Abort, alloc: Global, number: u64) -> Result<Entry, OutOfMemory> {
+    let path = format!(in alloc; "/f{number}")?;
+    entry(rt, alloc, 10, Template::ImaNg, b"", path.as_bytes(), b"")
 }
 
 // Adds the entry of the path `/f` followed by the number.
@@ -77,46 +64,82 @@ fn add_file(
     requires { pass.old.name ≡ book.old.name }
     ensures { (book.new.name ≡ book.old.name) × (pass.new.name ≡ pass.old.name) }
 {
-    let path = format!(in alloc; "/f{number}")?;
-    let e = entry(rt, alloc, b"", path.as_bytes())?;
-    book.reserve()?;
-    Ok(book.add(pass, e))
+    add(book, pass, file(rt, alloc, number)?)
 }
 
-#[test]
-fn entries_that_are_added_twice_stand_once(rt: HostRuntime) -> Result<(), Fail> {
-    let alloc = rt.alloc();
-    let (mut book, mut first, mut second) = start_three(&rt, alloc)?;
-    'added: for number in 0..4000u64 {
-        assert_eq!(rt;
-            add_file(&rt, alloc, &mut book, &mut first, number)?,
-            Placed::Added(number + 1)
-        );
-    }
-    'found: for number in 0..4000u64 {
-        assert_eq!(rt;
-            add_file(&rt, alloc, &mut book, &mut second, number)?,
-            Placed::Already(number + 1)
-        );
+// Adds 4,000 entries, which are in the list already if a caller has added them before.
+fn add_files(
+    rt: &impl Abort,
+    alloc: Global,
+    book: &mut Book,
+    pass: &mut Pass<Entry>,
+    wanted: Placed,
+) -> Result<(), OutOfMemory>
+    requires { pass.old.name ≡ book.old.name }
+    ensures { (book.new.name ≡ book.old.name) × (pass.new.name ≡ pass.old.name) }
+{
+    for number in 0..4000u64 {
+        let placed = add_file(rt, alloc, book, pass, number)?;
+        assert!(rt; placed == moved(wanted, number), "entry {number}");
     }
     Ok(())
 }
 
-#[test]
-fn a_violation_is_added_twice(rt: HostRuntime) -> Result<(), Fail> {
-    let alloc = rt.alloc();
-    let (mut book, mut pass, _) = start_three(&rt, alloc)?;
-    let a = entry(&rt, alloc, b"abc", b"/a")?;
-    book.reserve()?;
-    assert_eq!(rt; book.add(&mut pass, a), Placed::Added(1));
-    assert_eq!(rt; book.value(Bank::Sha1, 10), AFTER_A.as_slice());
-    assert!(rt; can_show(Template::ImaNg, b"/a"));
-    for place in 2..4u64 {
-        let e = violation(alloc, Template::ImaNg, Algo::Sha256, b"/a")?;
-        book.reserve()?;
-        assert_eq!(rt; book.add(&mut pass, e), Placed::Added(place));
+// The same answer, so many places further on.
+fn moved(placed: Placed, by: u64) -> Placed {
+    match placed {
+        Placed::Added(place) => Placed::Added(place.saturating_add(by)),
+        Placed::Already(place) => Placed::Already(place.saturating_add(by)),
     }
+}
+
+// Adds the same entries by one caller and then by the other.
+fn add_by_both(
+    rt: &impl Abort,
+    alloc: Global,
+    book: &mut Book,
+    first: &mut Pass<Entry>,
+    second: &mut Pass<Entry>,
+) -> Result<(), OutOfMemory>
+    requires { (first.old.name ≡ book.old.name) × (second.old.name ≡ book.old.name) }
+{
+    add_files(rt, alloc, book, first, Placed::Added(1))?;
+    add_files(rt, alloc, book, second, Placed::Already(1))
+}
+
+#[test]
+fn entries_that_are_added_twice_stand_once(rt: HostRuntime) -> Result<(), OutOfMemory> {
+    let (mut book, mut first, mut second) = start_three(&rt, rt.alloc())?;
+    add_by_both(&rt, rt.alloc(), &mut book, &mut first, &mut second)
+}
+
+// Adds the file, and its violation twice.
+fn add_violations(
+    rt: &impl Abort,
+    alloc: Global,
+    book: &mut Book,
+    pass: &mut Pass<Entry>,
+) -> Result<(), OutOfMemory>
+    requires { pass.old.name ≡ book.old.name }
+{
+    let a = entry(rt, alloc, 10, Template::ImaNg, b"abc", b"/a", b"")?;
+    holds(rt, add(book, pass, a)? == Placed::Added(1), "the file");
+    is_same(rt, book.value(Bank::Sha1, 10), AFTER_A, "the register");
+    let e = violation_of_a(rt, alloc, Template::ImaNg)?;
+    holds(rt, add(book, pass, e)? == Placed::Added(2), "a violation");
+    let e = violation_of_a(rt, alloc, Template::ImaNg)?;
+    holds(
+        rt,
+        add(book, pass, e)? == Placed::Added(3),
+        "a violation once more",
+    );
     Ok(())
+}
+
+#[test]
+fn a_violation_is_added_twice(rt: HostRuntime) -> Result<(), OutOfMemory> {
+    let (mut book, mut pass, _) = start_three(&rt, rt.alloc())?;
+    add_violations(&rt, rt.alloc(), &mut book, &mut pass)
 }
 
 /// The name of a book, as a type. Each call chooses its own.
@@ -166,8 +189,42 @@ impl<N: Name> Locked<N> {
     }
 }
 
+// Adds an entry under the lock, which has to come to this place.
+fn add_at<N: Name, R: Abort + Wait>(
+    rt: &R,
+    alloc: Global,
+    book: &Mutex<Locked<N>>,
+    pass: &mut Pass<Entry>,
+    number: u64,
+    place: u64,
+) -> Result<(), OutOfMemory>
+    requires { pass.old.name ≡ N.name }
+    ensures { pass.new.name ≡ N.name }
+{
+    let placed = book.lock(rt).add(rt, alloc, pass, number)?;
+    assert!(rt; placed == Placed::Added(place), "place {place}");
+    Ok(())
+}
+
 // Two callers add in turn. The places rise over both, and so for each of them.
 fn add_in_turn<N: Name, R: Abort + Wait>(
+    rt: &R,
+    alloc: Global,
+    book: &Mutex<Locked<N>>,
+    first: &mut Pass<Entry>,
+    second: &mut Pass<Entry>,
+) -> Result<(), OutOfMemory>
+    requires { (first.old.name ≡ N.name) × (second.old.name ≡ N.name) }
+{
+    for turn in 0..100u64 {
+        add_at(rt, alloc, book, first, 2 * turn, 2 * turn + 1)?;
+        add_at(rt, alloc, book, second, 2 * turn + 1, 2 * turn + 2)?;
+    }
+    Ok(())
+}
+
+// The same under a lock of its own.
+fn add_under_a_lock<N: Name, R: Abort + Wait>(
     rt: &R,
     alloc: Global,
     book: Book,
@@ -181,18 +238,11 @@ fn add_in_turn<N: Name, R: Abort + Wait>(
         book,
         name: PhantomData,
     });
-    for turn in 0..100u64 {
-        let place = book.lock(rt).add(rt, alloc, &mut first, 2 * turn)?;
-        assert_eq!(rt; place, Placed::Added(2 * turn + 1));
-        let place = book.lock(rt).add(rt, alloc, &mut second, 2 * turn + 1)?;
-        assert_eq!(rt; place, Placed::Added(2 * turn + 2));
-    }
-    Ok(())
+    add_in_turn(rt, alloc, &book, &mut first, &mut second)
 }
 
 #[test]
-fn places_rise_under_a_lock(rt: HostRuntime) -> Result<(), Fail> {
+fn places_rise_under_a_lock(rt: HostRuntime) -> Result<(), OutOfMemory> {
     let (book, first, second) = start_three(&rt, rt.alloc())?;
-    add_in_turn::<Brand, _>(&rt, rt.alloc(), book, first, second)?;
-    Ok(())
+    add_under_a_lock::<Brand, _>(&rt, rt.alloc(), book, first, second)
 }

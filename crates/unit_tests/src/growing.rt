@@ -1,11 +1,12 @@
 ghost use Rattle.std.specs.Prelude.{◌≡◌, ℕ, ◌<◌, ◌≤◌, [], ◌∷◌, ◌++◌, length, All, IfOk, Some, slice_get};
 ghost use Rattle.grow_list.specs.Shown.{fresh};
 
+use crate::checks::{holds, is_number};
 use grow_list::*;
 use std::alloc::Global;
 use std::marker::{Brand, Model, PhantomData};
+use std::process::Abort;
 use std::sync::{Mutex, Wait};
-use std::test::Fail;
 use std::thread::{Threads, join};
 
 /// A caller adds an entry, others then add any number of entries, and the caller looks. Its entry
@@ -60,55 +61,89 @@ fn close_two(
     Ok(grow.close(passes))
 }
 
-#[test]
-fn two_callers(rt: HostRuntime) -> Result<(), Fail> {
-    let (mut grow, mut first, mut second) = start_two(rt.alloc())?;
-    assert_eq!(rt; (first.number(), second.number()), (0, 1));
+// Three entries by two callers, in turn.
+fn add_three(
+    rt: &impl Abort,
+    grow: &mut Grow<u64>,
+    first: &mut Pass<u64>,
+    second: &mut Pass<u64>,
+) -> Result<(), OutOfMemory>
+    requires { (first.old.name ≡ grow.old.name) × (second.old.name ≡ grow.old.name) }
+    ensures list { (grow.new.name ≡ grow.old.name) × (grow.new.callers ≡ grow.old.callers) }
+    ensures first { (first.new.name ≡ first.old.name) × (first.new.number ≡ first.old.number) }
+    ensures second { (second.new.name ≡ second.old.name) × (second.new.number ≡ second.old.number) }
+{
     grow.reserve(3)?;
-    grow.push(&mut first, 5);
-    grow.push(&mut second, 6);
-    grow.push(&mut first, 7);
-    assert_eq!(rt; grow.len(), 3);
-    assert_eq!(rt; grow.at(1).copied(), Some(6));
-    assert_eq!(rt; grow.at(3).copied(), None);
-    let entries = close_two(rt.alloc(), grow, first, second)?;
-    assert_eq!(rt; entries.as_slice(), [5, 6, 7].as_slice());
+    grow.push(first, 5);
+    grow.push(second, 6);
+    grow.push(first, 7);
+    is_number(rt, grow.len(), 3, "entries");
+    holds(rt, grow.at(1).copied() == Some(6), "the second entry");
+    holds(rt, grow.at(3).copied() == None, "no fourth entry");
     Ok(())
 }
 
-#[test]
-fn one_caller_that_adds_nothing(rt: HostRuntime) -> Result<(), Fail> {
-    let (grow, passes) = Grow::<u64>::start(rt.alloc(), 1)?;
-    assert!(rt; grow.close(passes).is_empty());
-    Ok(())
-}
-
-/// Closes a list of two callers, the first of whom is the list's owner.
-fn close_with_one(
+// The entries when the list is closed.
+fn closes_with(
+    rt: &impl Abort,
     alloc: Global,
     grow: Grow<u64>,
-    own: Pass<u64>,
-    other: Pass<u64>,
-) -> Result<Vec<u64>, OutOfMemory>
+    first: Pass<u64>,
+    second: Pass<u64>,
+    wanted: &[u64],
+) -> Result<(), OutOfMemory>
+    requires callers { grow.callers ≡ 2 }
+    requires names { (first.name ≡ grow.name) × (second.name ≡ grow.name) }
+    requires numbers { (first.number ≡ 0) × (second.number ≡ 1) }
+{
+    let entries = close_two(alloc, grow, first, second)?;
+    holds(rt, entries.as_slice() == wanted, "the entries");
+    Ok(())
+}
+
+#[test]
+fn two_callers(rt: HostRuntime) -> Result<(), OutOfMemory> {
+    let (mut grow, mut first, mut second) = start_two(rt.alloc())?;
+    is_number(&rt, first.number() as u64, 0, "the first caller");
+    is_number(&rt, second.number() as u64, 1, "the second caller");
+    add_three(&rt, &mut grow, &mut first, &mut second)?;
+    closes_with(&rt, rt.alloc(), grow, first, second, &[5, 6, 7])
+}
+
+#[test]
+fn one_caller_that_adds_nothing(rt: HostRuntime) -> Result<(), OutOfMemory> {
+    let (grow, passes) = Grow::<u64>::start(rt.alloc(), 1)?;
+    holds(&rt, grow.close(passes).is_empty(), "no entries");
+    Ok(())
+}
+
+// Closes a list of two callers, the first of whom is the list's owner.
+fn closes_with_one(
+    rt: &impl Abort,
+    alloc: Global,
+    mut grow: Grow<u64>,
+    mut own: Pass<u64>,
+    mut other: Pass<u64>,
+) -> Result<(), OutOfMemory>
+    requires room { 2 ≤ grow.spare }
     requires callers { grow.callers ≡ 2 }
     requires names { (own.name ≡ grow.name) × (other.name ≡ grow.name) }
     requires numbers { (own.number ≡ 0) × (other.number ≡ 1) }
-    ensures { IfOk result (λ entries. entries.items ≡ grow.list) }
 {
+    grow.push(&mut other, 6);
+    grow.push(&mut own, 5);
     let mut others = Vec::with_capacity(alloc, 1)?;
     others.push_reserved(other);
-    Ok(grow.close_with(own, others))
+    let entries = grow.close_with(own, others);
+    holds(rt, entries.as_slice() == [6, 5].as_slice(), "the entries");
+    Ok(())
 }
 
 #[test]
-fn an_owner_and_a_caller(rt: HostRuntime) -> Result<(), Fail> {
-    let (mut grow, mut own, mut other) = start_two(rt.alloc())?;
+fn an_owner_and_a_caller(rt: HostRuntime) -> Result<(), OutOfMemory> {
+    let (mut grow, own, other) = start_two(rt.alloc())?;
     grow.reserve(2)?;
-    grow.push(&mut other, 6);
-    grow.push(&mut own, 5);
-    let entries = close_with_one(rt.alloc(), grow, own, other)?;
-    assert_eq!(rt; entries.as_slice(), [6, 5].as_slice());
-    Ok(())
+    closes_with_one(&rt, rt.alloc(), grow, own, other)
 }
 
 /// The name of a list, as a type. Each call chooses its own.
@@ -209,15 +244,20 @@ fn add_by_two<N: Name + Send + Sync, R: Threads + Wait + Sync>(
     close_two(alloc, list.into_inner().into_grow(), first, second)
 }
 
+// The numbers from 0 on, in order.
+fn are_counted(rt: &impl Abort, numbers: &[u64]) {
+    for (place, number) in numbers.iter().enumerate() {
+        is_number(rt, *number, place as u64, "an entry");
+    }
+}
+
 #[test]
-fn two_threads(rt: HostRuntime) -> Result<(), Fail> {
+fn two_threads(rt: HostRuntime) -> Result<(), OutOfMemory> {
     let (grow, first, second) = start_two(rt.alloc())?;
     let mut entries = add_by_two::<Brand, _>(&rt, rt.alloc(), grow, first, second)?;
-    assert_eq!(rt; entries.len(), 2000);
+    is_number(&rt, entries.len() as u64, 2000, "entries");
     entries.sort_unstable();
-    for (entry, number) in entries.iter().zip(0..2000) {
-        assert_eq!(rt; *entry, number);
-    }
+    are_counted(&rt, &entries);
     Ok(())
 }
 

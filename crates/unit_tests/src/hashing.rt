@@ -1,9 +1,12 @@
 // Digests of 5,000 bytes `a` that other programs computed (`md5sum`, `sha1sum`, `sha256sum`).
 
+use crate::checks::is_same;
+use crate::pages::letters;
 use hash_algos::{Algo, Digest};
 use inode_hashing::{Hashing, digest_of_content};
-use inode_pages::Content;
-use std::test::Fail;
+use inode_pages::{Content, PageErr};
+use std::alloc::{AllocError as OutOfMemory, Global};
+use std::process::Abort;
 
 const MD5: &[u8] = b"\x7a\xaa\x7d\xec\x70\x9f\xa4\xfa\x82\xf3\x74\x6a\xbf\xd8\x0b\xdb";
 
@@ -13,6 +16,8 @@ const SHA1: &[u8] =
 const SHA256: &[u8] =
     b"\xc5\x26\xc6\x22\x20\x44\xda\xb5\x67\x4d\xe9\xc4\xac\x7f\x45\x66\xeb\xb5\xe4\xd8\xbf\x9d\x8e\xa3\x4c\x9c\xc8\xa7\xcc\x3c\x86\x9c";
 
+const DIGESTS: [(Algo, &[u8]); 3] = [(Algo::Md5, MD5), (Algo::Sha1, SHA1), (Algo::Sha256, SHA256)];
+
 // Both digests of the bytes, which are hashed as one piece of `cut` bytes and one of the rest.
 fn by_pieces(algo: Algo, bytes: &[u8], cut: usize) -> (Digest, Digest) {
     let mut hashing = Hashing::begin(algo);
@@ -21,32 +26,53 @@ fn by_pieces(algo: Algo, bytes: &[u8], cut: usize) -> (Digest, Digest) {
     hashing.finish()
 }
 
-#[test]
-fn both_digests_are_those_of_other_programs(rt: HostRuntime) -> Result<(), Fail> {
-    let bytes = vec![in rt.alloc(); b'a'; 5000]?;
-    for (algo, wanted) in [(Algo::Md5, MD5), (Algo::Sha1, SHA1), (Algo::Sha256, SHA256)] {
-        for cut in [0, 1, 4096] {
-            let (chosen, sha1) = by_pieces(algo, bytes.as_slice(), cut);
-            assert_eq!(rt; chosen.as_slice(), wanted);
-            assert_eq!(rt; sha1.as_slice(), SHA1);
-        }
+// Compares both digests with those of other programs.
+fn are_those(rt: &impl Abort, got: &(Digest, Digest), wanted: &[u8], case: &str) {
+    is_same(rt, got.0.as_slice(), wanted, case);
+    is_same(rt, got.1.as_slice(), SHA1, case);
+}
+
+// Compares the digests of the bytes, of which the first piece has `cut`, by each algorithm.
+fn agree(rt: &impl Abort, bytes: &[u8], cut: usize) {
+    for (algo, wanted) in &DIGESTS {
+        are_those(rt, &by_pieces(*algo, bytes, cut), wanted, algo.name());
+    }
+}
+
+// Feeds the content's two pages.
+fn feed_pages(alloc: Global, content: &Content, hashing: &mut Hashing) -> Result<(), OutOfMemory> {
+    for number in 0..2 {
+        let page = content.page(alloc, number)?;
+        hashing.next_page(&page);
     }
     Ok(())
 }
 
-#[test]
-fn pages_are_hashed_as_their_bytes(rt: HostRuntime) -> Result<(), Fail> {
-    let bytes = vec![in rt.alloc(); b'a'; 5000]?;
-    let content = Content::from_slice(rt.alloc(), bytes.as_slice())?;
+// Compares the digests of the content, by its pages and whole.
+fn content_agrees(rt: &impl Abort, alloc: Global, content: &Content) -> Result<(), PageErr> {
     let mut hashing = Hashing::begin(Algo::Md5);
-    hashing.next_page(&content.page(rt.alloc(), 0)?);
-    hashing.next_page(&content.page(rt.alloc(), 1)?);
-    let (chosen, sha1) = hashing.finish();
-    assert_eq!(rt; chosen.as_slice(), MD5);
-    assert_eq!(rt; sha1.as_slice(), SHA1);
-    assert_eq!(rt;
-        digest_of_content(Algo::Sha256, &content).as_slice(),
-        SHA256
+    feed_pages(alloc, content, &mut hashing)?;
+    are_those(rt, &hashing.finish(), MD5, "by pages");
+    is_same(
+        rt,
+        digest_of_content(Algo::Sha256, content).as_slice(),
+        SHA256,
+        "whole",
     );
     Ok(())
+}
+
+#[test]
+fn both_digests_are_those_of_other_programs(rt: HostRuntime) -> Result<(), OutOfMemory> {
+    let bytes = vec![in rt.alloc(); b'a'; 5000]?;
+    agree(&rt, &bytes, 0);
+    agree(&rt, &bytes, 1);
+    agree(&rt, &bytes, 4096);
+    Ok(())
+}
+
+#[test]
+fn pages_are_hashed_as_their_bytes(rt: HostRuntime) -> Result<(), PageErr> {
+    let content = letters(rt.alloc(), 5000)?;
+    content_agrees(&rt, rt.alloc(), &content)
 }

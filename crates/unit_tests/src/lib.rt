@@ -8,7 +8,11 @@
 #[cfg(test)]
 mod books;
 #[cfg(test)]
+mod checks;
+#[cfg(test)]
 mod digests;
+#[cfg(test)]
+mod entries;
 #[cfg(test)]
 mod growing;
 #[cfg(test)]

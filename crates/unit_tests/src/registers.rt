@@ -1,23 +1,25 @@
 // A register after two extends, against values of `sha1sum` and `sha256sum`.
 
+use crate::checks::is_same;
 use measure_book::registers::{Bank, Banks};
 
-const SHA1_TWICE: [u8; 20] = [
-    0x0e, 0x88, 0x99, 0x1a, 0x16, 0x8f, 0x26, 0x48, 0x2d, 0x5b, 0x6e, 0x38, 0x18, 0x24, 0x27, 0x1f,
-    0xdb, 0x49, 0x6d, 0xf9,
-];
+const SHA1_TWICE: &[u8] =
+    b"\x0e\x88\x99\x1a\x16\x8f\x26\x48\x2d\x5b\x6e\x38\x18\x24\x27\x1f\xdb\x49\x6d\xf9";
 
-const SHA256_TWICE: [u8; 32] = [
-    0x73, 0x7c, 0xd3, 0x3a, 0x98, 0x9a, 0xe8, 0xef, 0xf8, 0x2e, 0x19, 0x60, 0x87, 0xca, 0x9f, 0xd2,
-    0x92, 0xa5, 0x02, 0x58, 0x6c, 0xa1, 0xe0, 0x29, 0x10, 0xc2, 0xd3, 0x02, 0x51, 0xf7, 0x28, 0xfd,
-];
+const SHA256_TWICE: &[u8] =
+    b"\x73\x7c\xd3\x3a\x98\x9a\xe8\xef\xf8\x2e\x19\x60\x87\xca\x9f\xd2\x92\xa5\x02\x58\x6c\xa1\xe0\x29\x10\xc2\xd3\x02\x51\xf7\x28\xfd";
 
 #[test]
 fn two_extends_give_the_hash_of_a_hash(rt: HostRuntime) {
     let mut banks = Banks::new();
     banks.extend(23, &[1; 20], &[3; 32]);
     banks.extend(23, &[2; 20], &[4; 32]);
-    assert_eq!(rt; banks.value(Bank::Sha1, 23), SHA1_TWICE.as_slice());
-    assert_eq!(rt; banks.value(Bank::Sha256, 23), SHA256_TWICE.as_slice());
-    assert_eq!(rt; banks.value(Bank::Sha1, 22), [0u8; 20].as_slice());
+    is_same(&rt, banks.value(Bank::Sha1, 23), SHA1_TWICE, "SHA-1");
+    is_same(&rt, banks.value(Bank::Sha256, 23), SHA256_TWICE, "SHA-256");
+    is_same(
+        &rt,
+        banks.value(Bank::Sha1, 22),
+        &[0; 20],
+        "a register that isn't extended",
+    );
 }

@@ -17,9 +17,15 @@ fn an_open_that_no_rule_concerns_is_counted_and_checked(rt: HostRuntime) {
         admin: false,
     };
     let mut plan = Plan::start(&call, hand, Mode::Enforce);
-    assert_eq!(rt; plan.next(), Ask::Count);
-    assert_eq!(rt; plan.told(&Told::Held, None), None);
+    assert!(rt; plan.next() == Ask::Count, "the count is asked");
+    assert!(rt; plan.told(&Told::Held, None).is_none(), "the call goes on");
     let func = Func::FileCheck;
-    assert_eq!(rt; plan.next(), Ask::Check { func, mask: 4 });
-    assert_eq!(rt; plan.told(&Told::Quiet, None), Some(Reply::Done));
+    assert!(rt;
+        plan.next() == Ask::Check { func, mask: 4 },
+        "the check is asked"
+    );
+    assert!(rt;
+        plan.told(&Told::Quiet, None) == Some(Reply::Done),
+        "the call is done"
+    );
 }

@@ -3,4 +3,4 @@
 mod changes;
 mod lab;
 mod opens;
-mod start;
+pub mod start;

@@ -2,11 +2,10 @@ ghost use Rattle.std.specs.Prelude.{◌≡◌, ◌<◌, All, IfOk, length};
 ghost use Rattle.world_close.specs.Parts.{KeepConsts, consts_of_parts};
 ghost use Rattle.world_start.specs.Started.{IsFile};
 
-use evm_verify::Evm;
-use hash_algos::{Algo, Digest};
-use inode_events::templates::{Entry, build, can_show};
-use inode_events::{Image, Settings};
-use inode_meta::{Meta, Mode, Template};
+use crate::cells::start::{boot, settings};
+use inode_events::Image;
+use inode_events::templates::can_show;
+use inode_meta::{Meta, Template};
 use inode_pages::Content;
 use policy_rules::{Policy, Super};
 use std::alloc::{AllocError as OutOfMemory, Global};
@@ -29,30 +28,6 @@ const META: Meta = Meta {
     mode: 0o100644,
     place: 0,
 };
-
-fn settings(alloc: Global) -> Result<Settings, OutOfMemory> {
-    let none: [Bytes; 0] = [];
-    Ok(Settings {
-        hash: Algo::Sha256,
-        template: Template::ImaNg,
-        mode: Mode::Enforce,
-        evm: Evm::new(alloc, None, &none, 1)?,
-    })
-}
-
-fn boot(rt: &impl Abort, alloc: Global) -> Result<Entry, OutOfMemory> {
-    assert!(rt; can_show(Template::ImaNg, b"boot_aggregate"));
-    let zeros = Digest::zeros(Algo::Sha1);
-    build(
-        alloc,
-        10,
-        Template::ImaNg,
-        &zeros,
-        &zeros,
-        b"boot_aggregate",
-        b"",
-    )
-}
 
 // An empty file with this path.
 fn file(rt: &impl Abort, alloc: Global, path: &[u8]) -> Result<(Bytes, Image), OutOfMemory>
@@ -84,30 +59,28 @@ fn files(rt: &impl Abort, alloc: Global) -> Result<(Vec<(Bytes, Image)>, Vec<u32
     Ok((files, places))
 }
 
+// The file system of both files.
+fn place(alloc: Global) -> Result<Super, OutOfMemory> {
+    Ok(Super {
+        magic: 1,
+        uuid: 0,
+        name: Bytes::from_slice(alloc, b"a")?,
+        versions: true,
+    })
+}
+
 // The parts of a world with two inodes.
 fn parts(rt: &impl Abort, alloc: Global) -> Result<Parts, OutOfMemory>
     ensures keep { IfOk result (λ p. KeepConsts (consts_of_parts p) p) }
     ensures two { IfOk result (λ p. length p.world_inodes.items ≡ 2) }
 {
+    let settings = settings(alloc, None)?;
+    let boot = boot(rt, alloc)?;
     let (files, places) = files(rt, alloc)?;
     let mut supers = Vec::new(alloc);
-    supers.push(Super {
-        magic: 1,
-        uuid: 0,
-        name: Bytes::from_slice(alloc, b"a")?,
-        versions: true,
-    })?;
+    supers.push(place(alloc)?)?;
     let rules = Policy::new(alloc);
-    let start = start_lists(
-        alloc,
-        settings(alloc)?,
-        boot(rt, alloc)?,
-        files,
-        supers,
-        places,
-        rules,
-        2,
-    )?;
+    let start = start_lists(alloc, settings, boot, files, supers, places, rules, 2)?;
     let Start { parts, passes: _ } = start;
     Ok(parts)
 }
@@ -161,7 +134,7 @@ fn hold_both<N: Name, R: Threads + Wait + Sync>(
 fn two_inodes_are_held_at_once(rt: HostRuntime) -> Result<(), Fail> {
     let parts = parts(&rt, rt.alloc())?;
     let (parts, saw) = hold_both::<Brand, _>(&rt, parts)?;
-    assert!(rt; saw);
-    assert_eq!(rt; parts.world_inodes.len(), 2);
+    assert!(rt; saw, "both are held");
+    assert!(rt; parts.world_inodes.len() == 2, "two inodes");
     Ok(())
 }

@@ -12,14 +12,12 @@ use std::test::Fail;
 #[derive(Clone, Copy)]
 pub enum Step {
     Open(How),
-    Set(&'static [u8], &'static [u8]),
-    // Sets an attribute as a task that may administer.
-    AdminSet(&'static [u8], &'static [u8]),
-    Remove(&'static [u8]),
-    SetMeta(Change),
+    // Sets the attribute, or removes it if there is no value.
+    Attr(&'static Cred, &'static [u8], Option<&'static [u8]>),
+    Meta(Change),
 }
 
-#[derive(Clone, Copy, Debug, PartialEq, Eq)]
+#[derive(Clone, Copy, PartialEq, Eq)]
 pub enum Answer {
     Opened(Counted),
     Changed(Set),
@@ -28,15 +26,19 @@ pub enum Answer {
 // The steps in order, each with the number of its task and the expected answer.
 pub type Steps = &'static [(u32, Step, Answer)];
 
-fn cred(admin: bool) -> Cred {
-    Cred {
-        uid: 0,
-        euid: 0,
-        gid: 0,
-        egid: 0,
-        admin,
-    }
-}
+pub const ROOT: Cred = Cred {
+    uid: 0,
+    euid: 0,
+    gid: 0,
+    egid: 0,
+    admin: false,
+};
+
+// A task that may administer.
+pub const ADMIN: Cred = Cred {
+    admin: true,
+    ..ROOT
+};
 
 fn does(
     cell: &mut InodeCell,
@@ -56,19 +58,11 @@ fn does(
     };
     match step {
         Step::Open(how) => Ok(Answer::Opened(cell.count(pass, who, how)?)),
-        Step::Set(name, value) => {
-            let set = cell.set_attr(pass, who, &cred(false), name, Some(value))?;
+        Step::Attr(cred, name, value) => {
+            let set = cell.set_attr(pass, who, cred, name, value)?;
             Ok(Answer::Changed(set))
         }
-        Step::AdminSet(name, value) => {
-            let set = cell.set_attr(pass, who, &cred(true), name, Some(value))?;
-            Ok(Answer::Changed(set))
-        }
-        Step::Remove(name) => {
-            let set = cell.set_attr(pass, who, &cred(false), name, None)?;
-            Ok(Answer::Changed(set))
-        }
-        Step::SetMeta(change) => Ok(Answer::Changed(cell.set_meta(pass, who, change)?)),
+        Step::Meta(change) => Ok(Answer::Changed(cell.set_meta(pass, who, change)?)),
     }
 }
 
@@ -92,12 +86,36 @@ fn step_of(
     }
 }
 
-// Does the steps on one inode, and compares each answer with the table's.
-pub fn goes(rt: &impl Abort, alloc: Global, from: &Start, steps: Steps) -> Result<(), Fail> {
-    let (mut cell, mut first, mut second) = cell_of(rt, alloc, from)?;
+// Does the steps on the inode, and compares each answer with the table's.
+fn all_go(
+    rt: &impl Abort,
+    cell: &mut InodeCell,
+    first: &mut Pass<Event>,
+    second: &mut Pass<Event>,
+    steps: Steps,
+    case: &str,
+) -> Result<(), OutOfMemory>
+    requires first { (first.old.name ≡ cell.old.journal) × (first.old.number ≡ 1) }
+    requires second { (second.old.name ≡ cell.old.journal) × (second.old.number ≡ 2) }
+{
+    let mut at = 0u32;
     for (task, step, answer) in steps {
-        let got = step_of(&mut cell, &mut first, &mut second, *task, *step)?;
-        assert_eq!(rt; got, *answer);
+        let got = step_of(cell, first, second, *task, *step)?;
+        assert!(rt; got == *answer, "{case}: step {at}");
+        at = at.saturating_add(1);
     }
+    Ok(())
+}
+
+// Does the steps on an inode of its own.
+pub fn goes(
+    rt: &impl Abort,
+    alloc: Global,
+    from: &Start,
+    steps: Steps,
+    case: &str,
+) -> Result<(), Fail> {
+    let (mut cell, mut first, mut second) = cell_of(rt, alloc, from)?;
+    all_go(rt, &mut cell, &mut first, &mut second, steps, case)?;
     Ok(())
 }

@@ -43,7 +43,7 @@ const NOT_CREATED: Steps = &[
 
 #[test]
 fn opens_and_executions_are_refused(rt: HostRuntime) -> Result<(), Fail> {
-    goes(&rt, rt.alloc(), &PLAIN, WRITER_FIRST)?;
-    goes(&rt, rt.alloc(), &PLAIN, EXEC_FIRST)?;
-    goes(&rt, rt.alloc(), &ABSENT, NOT_CREATED)
+    goes(&rt, rt.alloc(), &PLAIN, WRITER_FIRST, "a writer first")?;
+    goes(&rt, rt.alloc(), &PLAIN, EXEC_FIRST, "an execution first")?;
+    goes(&rt, rt.alloc(), &ABSENT, NOT_CREATED, "an absent file")
 }

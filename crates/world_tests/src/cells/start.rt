@@ -68,9 +68,10 @@ const META: Meta = Meta {
     place: 1,
 };
 
-fn settings(alloc: Global, start: &Start) -> Result<Settings, OutOfMemory> {
+// The settings of a script that has them as it starts, but for the key.
+pub fn settings(alloc: Global, key: Option<&[u8]>) -> Result<Settings, OutOfMemory> {
     let none: [Bytes; 0] = [];
-    let evm = Evm::new(alloc, start.key, &none, 1)?;
+    let evm = Evm::new(alloc, key, &none, 1)?;
     Ok(Settings {
         hash: Algo::Sha256,
         template: Template::ImaNg,
@@ -79,14 +80,20 @@ fn settings(alloc: Global, start: &Start) -> Result<Settings, OutOfMemory> {
     })
 }
 
+// The attributes of a list.
+fn attrs(alloc: Global, list: &[(&'static [u8], &'static [u8])]) -> Result<Attrs, Fail> {
+    let mut attrs = Attrs::new(alloc);
+    for (name, value) in list {
+        attrs.set(name, value)?;
+    }
+    Ok(attrs)
+}
+
 fn image(alloc: Global, start: &Start) -> Result<Image, Fail>
     ensures { IfOk result (λ i. i.content ≡ start.now.content.now) }
 {
-    let mut attrs = Attrs::new(alloc);
-    for (name, value) in start.attrs {
-        attrs.set(name, value)?;
-    }
     let content = Content::from_slice(alloc, start.content)?;
+    let attrs = attrs(alloc, start.attrs)?;
     Ok(Image {
         present: start.present,
         content,
@@ -96,13 +103,11 @@ fn image(alloc: Global, start: &Start) -> Result<Image, Fail>
     })
 }
 
-// The pass of a new measurement list for the list's one inode.
-fn book_pass(rt: &impl Abort, alloc: Global) -> Result<Pass<Entry>, OutOfMemory>
-    ensures { IfOk result (λ p. p.mine ≡ []) }
-{
+// The first entry of a list.
+pub fn boot(rt: &impl Abort, alloc: Global) -> Result<Entry, OutOfMemory> {
     assert!(rt; can_show(Template::ImaNg, b"boot_aggregate"));
     let zeros = Digest::zeros(Algo::Sha1);
-    let boot = build(
+    build(
         alloc,
         10,
         Template::ImaNg,
@@ -110,7 +115,14 @@ fn book_pass(rt: &impl Abort, alloc: Global) -> Result<Pass<Entry>, OutOfMemory>
         &zeros,
         b"boot_aggregate",
         b"",
-    )?;
+    )
+}
+
+// The pass of a new measurement list for the list's one inode.
+fn book_pass(rt: &impl Abort, alloc: Global) -> Result<Pass<Entry>, OutOfMemory>
+    ensures { IfOk result (λ p. p.mine ≡ []) }
+{
+    let boot = boot(rt, alloc)?;
     let (_book, mut passes) = Book::start(alloc, 2, boot)?;
     let Some(pass) = passes.pop() else {
         unreachable!()
@@ -130,7 +142,7 @@ pub fn cell_of(
     assert!(rt; can_show(Template::Ima, b"/f"));
     assert!(rt; start.content.len() <= 4096);
     let book = book_pass(rt, alloc)?;
-    let settings = settings(alloc, start)?;
+    let settings = settings(alloc, start.key)?;
     let image = image(alloc, start)?;
     let (cell, mut passes) = InodeCell::start(alloc, b"/f", image, settings, 2, book)?;
     let Some(second) = passes.pop() else {

@@ -1,6 +1,6 @@
 -- Both passes stay those of the cell.
 use Rattle.std.proofs.Common.{◌≡◌}
-use Rattle.world_tests.proofs.cells.lab.goes.Given as goal
+use Rattle.world_tests.proofs.cells.lab.all_go.Given as goal
 
 abbrev pub invariant-loop-task : goal.invariant-loop-task
 invariant-loop-task g l = record {
