@@ -4,7 +4,7 @@
 ghost use Rattle.std.specs.Prelude.{◌≡◌, ◌≢◌, IfOk};
 ghost use Rattle.grow_list.specs.Shown.{fresh};
 
-use crate::checks::{holds, is_same};
+use crate::checks::is_same;
 use crate::entries::{entry, violation_of_a};
 use ima_templates::{Entry, Placed};
 use inode_meta::Template;
@@ -113,6 +113,42 @@ fn entries_that_are_added_twice_stand_once(rt: HostRuntime) -> Result<(), OutOfM
     add_by_both(&rt, rt.alloc(), &mut book, &mut first, &mut second)
 }
 
+// Adds an entry, which has to come to this place.
+fn adds(
+    rt: &impl Abort,
+    book: &mut Book,
+    pass: &mut Pass<Entry>,
+    e: Entry,
+    place: u64,
+) -> Result<(), OutOfMemory>
+    requires { pass.old.name ≡ book.old.name }
+    ensures { (book.new.name ≡ book.old.name) × (pass.new.name ≡ pass.old.name) }
+{
+    let placed = add(book, pass, e)?;
+    assert!(rt; placed == Placed::Added(place), "place {place}");
+    Ok(())
+}
+
+// Adds the violation of `/a`, which has to come to this place.
+fn adds_violation(
+    rt: &impl Abort,
+    alloc: Global,
+    book: &mut Book,
+    pass: &mut Pass<Entry>,
+    place: u64,
+) -> Result<(), OutOfMemory>
+    requires { pass.old.name ≡ book.old.name }
+    ensures { (book.new.name ≡ book.old.name) × (pass.new.name ≡ pass.old.name) }
+{
+    adds(
+        rt,
+        book,
+        pass,
+        violation_of_a(rt, alloc, Template::ImaNg)?,
+        place,
+    )
+}
+
 // Adds the file, and its violation twice.
 fn add_violations(
     rt: &impl Abort,
@@ -123,17 +159,10 @@ fn add_violations(
     requires { pass.old.name ≡ book.old.name }
 {
     let a = entry(rt, alloc, 10, Template::ImaNg, b"abc", b"/a", b"")?;
-    holds(rt, add(book, pass, a)? == Placed::Added(1), "the file");
+    adds(rt, book, pass, a, 1)?;
     is_same(rt, book.value(Bank::Sha1, 10), AFTER_A, "the register");
-    let e = violation_of_a(rt, alloc, Template::ImaNg)?;
-    holds(rt, add(book, pass, e)? == Placed::Added(2), "a violation");
-    let e = violation_of_a(rt, alloc, Template::ImaNg)?;
-    holds(
-        rt,
-        add(book, pass, e)? == Placed::Added(3),
-        "a violation once more",
-    );
-    Ok(())
+    adds_violation(rt, alloc, book, pass, 2)?;
+    adds_violation(rt, alloc, book, pass, 3)
 }
 
 #[test]

@@ -94,7 +94,7 @@ fn all_go(
     second: &mut Pass<Event>,
     steps: Steps,
     case: &str,
-) -> Result<(), OutOfMemory>
+) -> Result<(), Fail>
     requires first { (first.old.name ≡ cell.old.journal) × (first.old.number ≡ 1) }
     requires second { (second.old.name ≡ cell.old.journal) × (second.old.number ≡ 2) }
 {
@@ -116,6 +116,5 @@ pub fn goes(
     case: &str,
 ) -> Result<(), Fail> {
     let (mut cell, mut first, mut second) = cell_of(rt, alloc, from)?;
-    all_go(rt, &mut cell, &mut first, &mut second, steps, case)?;
-    Ok(())
+    all_go(rt, &mut cell, &mut first, &mut second, steps, case)
 }
