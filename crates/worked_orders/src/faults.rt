@@ -49,7 +49,8 @@ fn room_ends(alloc: Global, input: &[u8], whole: &[u8], room: usize) -> Result<b
     )
 }
 
-/// Whether an output with room for so many bytes has taken just these.
+/// Whether an output that has too little room takes just as many bytes as it has room for, and
+/// writing fails.
 pub fn writes_fail(alloc: Global, input: &[u8], whole: &[u8]) -> Result<bool, OutOfMemory> {
     for room in &[0, 1, 30, 100] {
         if !room_ends(alloc, input, whole, *room)? {
