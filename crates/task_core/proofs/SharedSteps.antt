@@ -1,6 +1,6 @@
 -- How a turn ends on a world that threads share.
-use Rattle.std.proofs.Common.{◌≡◌, ℕ, Option, Some, None, refl, sym, ◌∙◌, ap, subst}
-use Rattle.std.specs.Prelude.{IfOk, OnErr, Result, Ok, Err, slice_get}
+use Rattle.std.proofs.Common.{◌≡◌, ℕ, false, Option, Some, None, refl, sym, ◌∙◌, ap, subst}
+use Rattle.std.specs.Prelude.{OnErr, Result, Ok, Err, slice_get}
 use Rattle.call_steps.specs.CallState.{Step}
 use Rattle.call_steps.specs.CallState.{Appends, Checks, Does, Nothing, Signals}
 use Rattle.inode_events.specs.declared.deed.Deed.{Deed}
@@ -8,26 +8,26 @@ use Rattle.inode_events.specs.declared.told.Told.TheVariants as told
 use Rattle.inode_meta.specs.declared.identity.Cred.{Cred}
 use Rattle.inode_meta.specs.declared.step.Who.{Who}
 use Rattle.inode_meta.specs.declared.appraisal.Mode.{Mode}
-use Rattle.call_steps.specs.Steps.{given}
-use Rattle.policy_rules.specs.ActionValue.{ActionValue}
 use Rattle.policy_rules.specs.RuleValue.{RuleValue}
-use Rattle.run_model.specs.History.{Position, resume, step_at, who_at}
-use Rattle.run_model.specs.Turns.{State, step_due, step_task}
+use Rattle.run_model.specs.History.{step_at, who_at}
+use Rattle.run_model.specs.Rounds.{is_moved}
+use Rattle.run_model.specs.Turns.{State, Turned, step_due, step_task}
 use Rattle.run_model.specs.declared.turn.Turn.{Turn}
 use Rattle.run_model.specs.declared.turn.Turn.TheVariants as turns
 use Rattle.task_core.proofs.Blocks.{check_blocks, deed_blocks, err_fails, no_answer, over_ends, signal_blocks, told_moves}
-use Rattle.task_core.proofs.Turns.{appends_fail, appends_turn, check_turn, does_turn, signals_turn}
+use Rattle.task_core.proofs.Turns.{appends_fail, appends_turn, check_turn, does_turn, signals_turn, turned_goes}
+use Rattle.task_core.specs.GoesOn.{GoesOn, turn_of}
 use Rattle.task_core.specs.Shared.{IsBlockedBy, IsBlockedOn, IsIdle, StepsTo, TurnsToMet}
 use Rattle.world_locks.specs.acts.declared.listed.Checks.{Checks as Asked}
 use Rattle.world_model.specs.WorldConsts.{InodeConsts, WorldConsts, mode_in, scene_of}
 use Rattle.world_model.specs.Tasks.{PassesValue, Tasked}
 use Rattle.world_model.specs.declared.hash_state.HashState.{HashState}
 use Rattle.world_locks.proofs.about_worlds.Blocking.{task_of_who}
-use Rattle.world_locks.specs.worlds.Plays.{task_after, task_left}
+use Rattle.world_locks.specs.worlds.Plays.{task_after}
 use Rattle.task_state.specs.Value.{TaskValue}
 use Rattle.world_locks.proofs.about_acts.Sharing.{nothing_tells}
 use Rattle.world_locks.specs.acts.Acting.{told_in}
-use Rattle.world_locks.specs.acts.Turning.{Goes, Stops, Tells, TurnsTo, answer_of, turn_result_of, turned_to}
+use Rattle.world_locks.specs.acts.Turning.{Goes, turn_result_of, turned_to}
 use Rattle.world_locks.specs.acts.declared.answers.StepResult.{StepResult}
 use Rattle.world_locks.specs.acts.declared.answers.TurnResult.{TurnResult}
 use Rattle.world_locks.specs.acts.declared.answers.TurnResult.TheVariants as turn_result
@@ -152,70 +152,19 @@ over_met consts t st = record {
   blocked = λ b. absurd (over_ends b);
 }
 
--- ---- the task after the turn
-
-module _ (consts : WorldConsts) (t t2 : Tasked) (passes : PassesValue) (g : HashState) where
-  -- the task after a turn for which its program was over
-  pub over_steps : {E : Type 0} (r : Result TurnResult E) (x : TurnResult) → r ≡ Ok x
-      → x ≡ turn_result.Over → TurnsToMet consts t passes g r → t2 ≡ task_left t passes g
-      → StepsTo consts t t2 turns.Done
-  over_steps {E} r x e f m k =
-      let stops : Stops consts t m.old (state_seen passes) passes g turns.Done =
-      subst (λ (z : Result TurnResult E). TurnsTo consts t m.old (state_seen passes) passes g z)
-      (e ∙ ap (λ (z : TurnResult). Ok z) f) m.reaches in
-      record {
-        old = m.old;
-        goes = subst (λ (z : Tasked). Goes consts t m.old
-            (turned_to (state_seen z.passes) z.task_state.position turns.Done)) (sym k) stops.goes;
-      }
-
-  -- the task after a turn that was blocked
-  pub blocked_steps : {E : Type 0} (r : Result TurnResult E) (x : TurnResult) → r ≡ Ok x
-      → x ≡ turn_result.Blocked → TurnsToMet consts t passes g r → t2 ≡ task_left t passes g
-      → StepsTo consts t t2 turns.Blocked
-  blocked_steps {E} r x e f m k =
-      let stops : Stops consts t m.old (state_seen passes) passes g turns.Blocked =
-      subst (λ (z : Result TurnResult E). TurnsTo consts t m.old (state_seen passes) passes g z)
-      (e ∙ ap (λ (z : TurnResult). Ok z) f) m.reaches in
-      record {
-        old = m.old;
-        goes = subst (λ (z : Tasked). Goes consts t m.old
-            (turned_to (state_seen z.passes) z.task_state.position turns.Blocked))
-            (sym k) stops.goes;
-      }
-
-  -- the task after a turn that moved it
-  pub moved_steps : {E : Type 0} (r : Result TurnResult E) (x : TurnResult) (a : StepResult)
-      (mode : Mode)
-      (action : Option ActionValue) (task_state : TaskValue) → r ≡ Ok x → x ≡ turn_result.Told a
-      → TurnsToMet consts t passes g r → t2 ≡ task_after t task_state passes g
-      → mode ≡ mode_in consts → action ≡ a.action
-      → ((rules : ℕ) → task_state.position ≡ resume mode t.task_state.program t.task_state.position
-      (record { place = a.place; told = a.told; action = given action; rules = rules }))
-      → StepsTo consts t t2 turns.Moved
-  moved_steps {E} r x a mode action task_state e f m k same same_action position =
-      let tells : Tells consts t m.old (state_seen passes) passes g a =
-      subst (λ (z : Result TurnResult E). TurnsTo consts t m.old (state_seen passes) passes g z)
-      (e ∙ ap (λ (z : TurnResult). Ok z) f) m.reaches in
-      let resumed : resume (mode_in consts) t.task_state.program t.task_state.position
-      (answer_of a tells.rules) ≡ task_state.position =
-      sym (position tells.rules
-      ∙ ap (λ (y : Mode). resume y t.task_state.program t.task_state.position
-      (record { place = a.place; told = a.told; action = given action; rules = tells.rules })) same
-      ∙ ap (λ (y : Option ActionValue). resume (mode_in consts) t.task_state.program
-      t.task_state.position
-      (record { place = a.place; told = a.told; action = given y; rules = tells.rules }))
-      same_action) in
-      record {
-        old = m.old;
-        goes = subst (λ (z : Tasked). Goes consts t m.old
-            (turned_to (state_seen z.passes) z.task_state.position turns.Moved)) (sym k)
-            (subst (λ (u : Position).
-            Goes consts t m.old (turned_to (state_seen passes) u turns.Moved))
-            resumed tells.goes);
-      }
-
 -- ---- the task before room was made for its replies
+
+-- a turn that was blocked has the result that says so
+blocked_is : (x : TurnResult) → turn_of x ≡ turns.Blocked → x ≡ turn_result.Blocked
+blocked_is turn_result.Over e = absurd (cc)
+blocked_is turn_result.Blocked e = refl
+blocked_is (turn_result.Told a) e = absurd (cc)
+
+-- a turn that moved nothing has no answer
+idle_is : (E : Type 0) (x : TurnResult) → is_moved (turn_of x) ≡ false → IsIdle {E = E} (Ok x)
+idle_is E turn_result.Over e = tt
+idle_is E turn_result.Blocked e = tt
+idle_is E (turn_result.Told a) e = absurd (cc)
 
 -- the task with more room for its replies
 pub record HasRoom (t0 t : Tasked) : Type 0 where
@@ -224,23 +173,21 @@ pub record HasRoom (t0 t : Tasked) : Type 0 where
   pub position : t.task_state.position ≡ t0.task_state.position
   pub passes : t.passes ≡ t0.passes
 
-module _ (consts : WorldConsts) (t0 t t2 : Tasked) (room : HasRoom t0 t) where
+module _ (consts : WorldConsts) (t0 t : Tasked) (room : HasRoom t0 t) where
   -- the task makes the same turn as without the additional room
-  pub steps_with : (turn : Turn) → StepsTo consts t t2 turn → StepsTo consts t0 t2 turn
-  steps_with turn s = record {
-    old = s.old;
-    goes = λ programs.
-        let same : step_task (scene_of consts programs) t0.number t0.task_state.program s.old
-        t0.task_state.position
-        ≡ step_task (scene_of consts programs) t.number t.task_state.program s.old
-        t.task_state.position =
-        λ i. step_task (scene_of consts programs) (sym room.number i) (sym room.program i) s.old
-        (sym room.position i) in
-        same ∙ s.goes programs;
-  }
+  pub goes_with : (old : State) (after : Turned) → Goes consts t old after
+      → Goes consts t0 old after
+  goes_with old after goes programs =
+      let same : step_task (scene_of consts programs) t0.number t0.task_state.program old
+      t0.task_state.position
+      ≡ step_task (scene_of consts programs) t.number t.task_state.program old
+      t.task_state.position =
+      λ i. step_task (scene_of consts programs) (sym room.number i) (sym room.program i) old
+      (sym room.position i) in
+      same ∙ goes programs
 
   -- what blocks the step is the same as without the additional room
-  pub blocked_with : (passes : PassesValue)
+  blocked_with : (passes : PassesValue)
       → IsBlockedBy consts t.number t.passes passes
       (step_at t.task_state.program t.task_state.position.call_state)
       → IsBlockedBy consts t0.number t0.passes passes
@@ -255,14 +202,35 @@ module _ (consts : WorldConsts) (t0 t t2 : Tasked) (room : HasRoom t0 t) where
       (step_at t0.task_state.program t0.task_state.position.call_state)) room.passes
       (subst (λ (z : Option Step). IsBlockedBy consts t.number t.passes passes z) due b))
 
-  -- if the task made no step, its passes have no new entries
-  pub idle_adds : {E : Type 0} (passes : PassesValue) (g : HashState) (y : Result TurnResult E)
-      (x : TurnResult) → y ≡ Ok x → TurnsToMet consts t passes g y → IsIdle {E = E} (Ok x)
-      → t2 ≡ task_left t passes g → mines_of t2.passes ≡ mines_of t0.passes
-  idle_adds {E} passes g y x f m i k =
-      ap (λ (z : Tasked). mines_of z.passes) k
-      ∙ m.idle (subst (λ (z : Result TurnResult E). IsIdle z) (sym f) i)
-      ∙ ap (λ (p : PassesValue). mines_of p) room.passes
+  module _ {E : Type 0} (passes : PassesValue) (g : HashState) (r : Result TurnResult E)
+      (x : TurnResult) (is : r ≡ Ok x) (m : TurnsToMet consts t passes g r) (turn : Turn)
+      (turn_is : turn ≡ turn_of x) where
+    -- the turn of the task, after which its answer was taken if there is one
+    pub steps_with : (mode : Mode) (task_state : TaskValue) → mode ≡ mode_in consts
+        → GoesOn mode t.task_state task_state x
+        → StepsTo consts t0 (task_after t task_state passes g) turn
+    steps_with mode task_state same on = record {
+      old = m.old;
+      goes = subst (λ (z : Turn). Goes consts t0 m.old
+          (turned_to (state_seen passes) task_state.position z)) (sym turn_is)
+          (goes_with m.old (turned_to (state_seen passes) task_state.position (turn_of x))
+          (turned_goes consts t m.old (state_seen passes) passes g r mode task_state x is m.reaches
+          same on));
+    }
+
+    -- what blocks the step of the task, if it is blocked
+    pub blocked_by : turn ≡ turns.Blocked → IsBlockedBy consts t0.number t0.passes passes
+        (step_at t0.task_state.program t0.task_state.position.call_state)
+    blocked_by b =
+        blocked_with passes (m.blocked (is ∙ ap (λ (z : TurnResult). Ok z)
+        (blocked_is x (sym turn_is ∙ b))))
+
+    -- if the task made no step, its passes have no new entries
+    pub idle_adds : is_moved turn ≡ false → mines_of passes ≡ mines_of t0.passes
+    idle_adds still =
+        m.idle (subst (λ (z : Result TurnResult E). IsIdle z) (sym is)
+        (idle_is E x (ap is_moved (sym turn_is) ∙ still)))
+        ∙ ap (λ (p : PassesValue). mines_of p) room.passes
 
 -- a proposition that holds in any case holds of an error
 pub on_err : {A E : Type 0} (r : Result A E) (P : Type 0) → P → OnErr r P

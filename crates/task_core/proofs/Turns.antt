@@ -39,7 +39,8 @@ use Rattle.world_locks.proofs.about_acts.Sharing.{appends_tells, signals_reach}
 use Rattle.world_locks.specs.acts.Acting.{EventIn, IsPlacedAt, IsSaid, ReadyAt, told_in, told_of}
 use Rattle.world_locks.specs.acts.Checking.{CheckIn}
 use Rattle.world_locks.specs.acts.Sharing.{AppendsTo, SignalsOn}
-use Rattle.world_locks.specs.acts.Turning.{Fails, StillPlays, Stops, Tells, TurnsTo, answer_of, turn_result_of}
+use Rattle.task_core.specs.GoesOn.{GoesOn, turn_of}
+use Rattle.world_locks.specs.acts.Turning.{Fails, Goes, StillPlays, Stops, Tells, TurnsTo, answer_of, turn_result_of, turned_to}
 use Rattle.world_locks.specs.acts.declared.answers.StepResult.{StepResult}
 use Rattle.world_locks.specs.acts.declared.answers.TurnResult.{TurnResult}
 use Rattle.world_locks.specs.acts.declared.answers.TurnResult.TheVariants as turn_result
@@ -314,3 +315,50 @@ module _ (consts after : WorldConsts) (t : Tasked) (old new : State) (passes : P
       (e ∙ ap (λ (z : TurnResult). Ok z) f) h in
       subst (λ (z : Tasked). IsTask after z) (sym k)
       (told_still a mode action task_state tells m same_action program position checked)
+
+-- the task that took the answer of its turn, if it has one, is still one of its world
+pub turned_still : {E : Type 0} (consts after : WorldConsts) (t : Tasked) (old new : State)
+    (passes : PassesValue) (g : HashState) → after ≡ consts → IsTask consts t
+    → (r : Result TurnResult E) (mode : Mode) (task_state : TaskValue) (x : TurnResult)
+    → r ≡ Ok x → TurnsTo consts t old new passes g r → mode ≡ mode_in consts
+    → GoesOn mode t.task_state task_state x → IsTask after (task_after t task_state passes g)
+turned_still consts after t old new passes g same is r mode task_state turn_result.Over e h m on =
+    over_still consts after t old new passes g same is r turn_result.Over
+    (task_after t task_state passes g) e refl h
+    (ap (λ (s : TaskValue). task_after t s passes g) on)
+turned_still consts after t old new passes g same is r mode task_state turn_result.Blocked e h m
+    on =
+    blocked_still consts after t old new passes g same is r turn_result.Blocked
+    (task_after t task_state passes g) e refl h
+    (ap (λ (s : TaskValue). task_after t s passes g) on)
+turned_still consts after t old new passes g same is r mode task_state (turn_result.Told a) e h m
+    on =
+    moved_still consts after t old new passes g same is r (turn_result.Told a)
+    (task_after t task_state passes g) a mode a.action task_state e refl h refl m refl on.program
+    on.position on.checked
+
+-- the turn that the task made, whether its answer was taken or there is none
+pub turned_goes : {E : Type 0} (consts : WorldConsts) (t : Tasked) (old new : State)
+    (passes : PassesValue) (g : HashState) (r : Result TurnResult E) (mode : Mode)
+    (task_state : TaskValue) (x : TurnResult) → r ≡ Ok x → TurnsTo consts t old new passes g r
+    → mode ≡ mode_in consts → GoesOn mode t.task_state task_state x
+    → Goes consts t old (turned_to new task_state.position (turn_of x))
+turned_goes {E} consts t old new passes g r mode task_state turn_result.Over e h m on =
+    let stops : Stops consts t old new passes g turns.Done =
+    subst (λ (z : Result TurnResult E). TurnsTo consts t old new passes g z) e h in
+    subst (λ (s : TaskValue). Goes consts t old (turned_to new s.position turns.Done)) (sym on)
+    stops.goes
+turned_goes {E} consts t old new passes g r mode task_state turn_result.Blocked e h m on =
+    let stops : Stops consts t old new passes g turns.Blocked =
+    subst (λ (z : Result TurnResult E). TurnsTo consts t old new passes g z) e h in
+    subst (λ (s : TaskValue). Goes consts t old (turned_to new s.position turns.Blocked)) (sym on)
+    stops.goes
+turned_goes {E} consts t old new passes g r mode task_state (turn_result.Told a) e h m on =
+    let tells : Tells consts t old new passes g a =
+    subst (λ (z : Result TurnResult E). TurnsTo consts t old new passes g z) e h in
+    let resumed : resume (mode_in consts) t.task_state.program t.task_state.position
+    (answer_of a tells.rules) ≡ task_state.position =
+    sym (on.position tells.rules
+    ∙ ap (λ (y : Mode). resume y t.task_state.program t.task_state.position
+    (answer_of a tells.rules)) m) in
+    subst (λ (u : Position). Goes consts t old (turned_to new u turns.Moved)) resumed tells.goes

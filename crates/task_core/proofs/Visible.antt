@@ -8,7 +8,7 @@ use Rattle.run_model.specs.Turns.{State}
 use Rattle.task_core.specs.Cells.{IsCellAt}
 use Rattle.task_core.specs.WorldFields.{IsWorld, consts_in, world_of}
 use Rattle.task_core.specs.declared.world.World.TheInside.{Inside}
-use Rattle.world_model.specs.WorldConsts.{WorldConsts, inode_in}
+use Rattle.world_model.specs.WorldConsts.{WorldConsts}
 use Rattle.world_model.specs.World.{IsWorldInode, WorldInodeValue, WorldValue, inode_consts_of, journal_of}
 
 abbrev pub cell_of : WorldInodeValue → CellValue

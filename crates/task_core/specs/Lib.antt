@@ -1,5 +1,6 @@
 pub mod WorldFields
 pub mod TaskFields
+pub mod GoesOn
 pub mod Shared
 pub mod Cells
 pub use Rattle.world_model.specs as worlds

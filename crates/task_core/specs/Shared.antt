@@ -1,5 +1,5 @@
 -- The effect of a step on a task, in a world that threads share.
-use Rattle.std.specs.Prelude.{◌≡◌, ℕ, ◌+◌, Option, Some, None, Result, Ok, Err, slice_get}
+use Rattle.std.specs.Prelude.{◌≡◌, ℕ, ◌+◌, Option, Some, None, Result, Ok, slice_get}
 use Rattle.call_steps.specs.CallState.{Step}
 use Rattle.call_steps.specs.CallState.{Checks, Does, Signals}
 use Rattle.grow_list.specs.Shown.{Passed}

@@ -10,7 +10,7 @@ ghost use Rattle.world_locks.specs.Met.{mines_of};
 
 use crate::live::Live;
 use crate::task::Task;
-use crate::turning::slot_due;
+use crate::turning::{go_on, slot_due};
 use inode_events::{Deed, Told};
 use run_model::Turn;
 use std::alloc::AllocError as OutOfMemory;
@@ -120,24 +120,13 @@ impl Task {
             × (mines_of self.new.passes ≡ mines_of self.old.passes)) }
     {
         self.task_state.reserve()?;
-        match world.try_step(
+        let turned = world.try_step(
             rt,
             &self.task_state,
             self.number,
             &mut self.passes,
             &mut self.hash_state,
-        )? {
-            TurnResult::Over => Ok(Turn::Done),
-            TurnResult::Blocked => Ok(Turn::Blocked),
-            TurnResult::Told(answered) => {
-                self.task_state.resume(
-                    world.locks.mode(),
-                    &answered.told,
-                    answered.place,
-                    answered.action.as_ref(),
-                );
-                Ok(Turn::Moved)
-            }
-        }
+        )?;
+        Ok(go_on(&mut self.task_state, world.locks.mode(), turned))
     }
 }

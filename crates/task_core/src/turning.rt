@@ -1,8 +1,9 @@
 //! The turn of a task.
 
-ghost use Rattle.std.specs.Prelude.{◌≡◌, List, IfOk, OnErr};
+ghost use Rattle.std.specs.Prelude.{◌≡◌, ◌≤◌, List, IfOk, OnErr};
 ghost use Rattle.run_model.specs.Scene.{Program};
 ghost use Rattle.run_model.specs.Turns.{step_task};
+ghost use Rattle.task_core.specs.GoesOn.{GoesOn, turn_of};
 ghost use Rattle.world_locks.specs.acts.Turning.{TurnsTo, turned_to};
 ghost use Rattle.world_model.specs.WorldConsts.{scene_of};
 ghost use Rattle.world_model.specs.Tasks.{IsTask};
@@ -13,7 +14,7 @@ use crate::task::Task;
 use crate::world::World;
 use call_steps::Ask;
 use inode_events::{Deed, Told};
-use inode_meta::Slot;
+use inode_meta::{Mode, Slot};
 use run_model::Turn;
 use std::alloc::AllocError as OutOfMemory;
 use task_state::{Step, TaskState};
@@ -27,6 +28,28 @@ pub(crate) fn slot_due(task_state: &TaskState) -> Slot
     match task_state.due() {
         Some(Ask::Take { slot }) => slot,
         _ => Slot::File,
+    }
+}
+
+// Takes the answer of the turn, if it has one, in room that was reserved.
+pub(crate) fn go_on(task_state: &mut TaskState, mode: Mode, turned: TurnResult) -> Turn
+    requires { 1 ≤ task_state.old.spare }
+    ensures turn { result ≡ turn_of turned }
+    ensures program { task_state.new.program ≡ task_state.old.program }
+    ensures goes { GoesOn mode task_state.old task_state.new turned }
+{
+    match turned {
+        TurnResult::Over => Turn::Done,
+        TurnResult::Blocked => Turn::Blocked,
+        TurnResult::Told(answered) => {
+            task_state.resume(
+                mode,
+                &answered.told,
+                answered.place,
+                answered.action.as_ref(),
+            );
+            Turn::Moved
+        }
     }
 }
 
@@ -105,23 +128,12 @@ impl Task {
             × (self.new.task_state.position ≡ self.old.task_state.position)) }
     {
         self.task_state.reserve()?;
-        match world.try_step(
+        let turned = world.try_step(
             &self.task_state,
             self.number,
             &mut self.passes,
             &mut self.hash_state,
-        )? {
-            TurnResult::Over => Ok(Turn::Done),
-            TurnResult::Blocked => Ok(Turn::Blocked),
-            TurnResult::Told(answered) => {
-                self.task_state.resume(
-                    world.parts.settings.mode,
-                    &answered.told,
-                    answered.place,
-                    answered.action.as_ref(),
-                );
-                Ok(Turn::Moved)
-            }
-        }
+        )?;
+        Ok(go_on(&mut self.task_state, world.parts.settings.mode, turned))
     }
 }

@@ -1,5 +1,5 @@
 -- A check on the inode of the number, which is there, after two looks at the appended rules.
-use Rattle.std.proofs.Common.{◌<◌, length, refl, arith}
+use Rattle.std.proofs.Common.{◌<◌, ℕ, length, refl, subst, sym, ◌∙◌}
 use Rattle.inode_events.specs.Checks.{no_action}
 use Rattle.inode_events.specs.declared.deed.Deed.TheVariants as deed
 use Rattle.task_core.proofs.Checks.{RulesLooked}
@@ -10,7 +10,8 @@ pub look-requires : goal.look-requires
 look-requires c =
     let w = c.self.inside.parts in
     let s = c.world_inode.inside in
-    let within : c.args.i < length w.world_inodes.items = omega (arith, c.len.ensures) in
+    let within : c.args.i < length w.world_inodes.items =
+    subst (λ (n : ℕ). c.args.i < n) (c.len.ensures ∙ w.world_inodes.ok.0) c.if-i-len.false in
     inspect_rules w.settings w.world_inodes.items w.supers.items w.book w.sems w.rules w.tasks
     c.self.invariant.parts c.args.i s.cell s.rules s.place c.index_mut-world_inode.result.now
     c.world_inode.view_is within c.index_mut-world_inode.ensures.value
@@ -19,18 +20,20 @@ pub index-place-requires : goal.index-place-requires
 index-place-requires c =
     let w = c.self.inside.parts in
     let s = c.world_inode.inside in
-    let within : c.args.i < length w.world_inodes.items = omega (arith, c.len.ensures) in
+    let within : c.args.i < length w.world_inodes.items =
+    subst (λ (n : ℕ). c.args.i < n) (c.len.ensures ∙ w.world_inodes.ok.0) c.if-i-len.false in
     let h : s.place < length w.supers.items =
     inspect_place w.settings w.world_inodes.items w.supers.items w.book w.sems w.rules w.tasks
     c.self.invariant.parts c.args.i s.cell s.rules s.place c.index_mut-world_inode.result.now
     c.world_inode.view_is within c.index_mut-world_inode.ensures.value in
-    omega (arith, w.supers.ok)
+    subst (λ (n : ℕ). s.place < n) (sym w.supers.ok.0) h
 
 pub check_at-requires-clause-name : goal.check_at-requires-clause-name
 check_at-requires-clause-name c =
     let w = c.self.inside.parts in
     let s = c.world_inode.inside in
-    let within : c.args.i < length w.world_inodes.items = omega (arith, c.len.ensures) in
+    let within : c.args.i < length w.world_inodes.items =
+    subst (λ (n : ℕ). c.args.i < n) (c.len.ensures ∙ w.world_inodes.ok.0) c.if-i-len.false in
     let p = c.passes.inside in
     (inspect_found w.settings w.world_inodes.items w.supers.items w.book w.sems w.rules w.tasks
     c.self.invariant.parts c.args.i s.cell s.rules s.place c.index_mut-world_inode.result.now
@@ -43,7 +46,8 @@ pub check_at-requires-clause-number : goal.check_at-requires-clause-number
 check_at-requires-clause-number c =
     let w = c.self.inside.parts in
     let s = c.world_inode.inside in
-    let within : c.args.i < length w.world_inodes.items = omega (arith, c.len.ensures) in
+    let within : c.args.i < length w.world_inodes.items =
+    subst (λ (n : ℕ). c.args.i < n) (c.len.ensures ∙ w.world_inodes.ok.0) c.if-i-len.false in
     let p = c.passes.inside in
     (inspect_found w.settings w.world_inodes.items w.supers.items w.book w.sems w.rules w.tasks
     c.self.invariant.parts c.args.i s.cell s.rules s.place c.index_mut-world_inode.result.now
@@ -56,7 +60,8 @@ pub check_at-requires-clause-book_name : goal.check_at-requires-clause-book_name
 check_at-requires-clause-book_name c =
     let w = c.self.inside.parts in
     let s = c.world_inode.inside in
-    let within : c.args.i < length w.world_inodes.items = omega (arith, c.len.ensures) in
+    let within : c.args.i < length w.world_inodes.items =
+    subst (λ (n : ℕ). c.args.i < n) (c.len.ensures ∙ w.world_inodes.ok.0) c.if-i-len.false in
     let p = c.passes.inside in
     inspect_book w.settings w.world_inodes.items w.supers.items w.book w.sems w.rules w.tasks
     c.self.invariant.parts c.args.i s.cell s.rules s.place c.index_mut-world_inode.result.now
@@ -69,7 +74,8 @@ pub check_at-requires-clause-ready : goal.check_at-requires-clause-ready
 check_at-requires-clause-ready c =
     let w = c.self.inside.parts in
     let s = c.world_inode.inside in
-    let within : c.args.i < length w.world_inodes.items = omega (arith, c.len.ensures) in
+    let within : c.args.i < length w.world_inodes.items =
+    subst (λ (n : ℕ). c.args.i < n) (c.len.ensures ∙ w.world_inodes.ok.0) c.if-i-len.false in
     let p = c.passes.inside in
     inspect_may w.settings w.world_inodes.items w.supers.items w.book w.sems w.rules w.tasks
     c.self.invariant.parts c.args.i s.cell s.rules s.place c.index_mut-world_inode.result.now
@@ -84,7 +90,8 @@ pub invariant_of-self : goal.invariant_of-self
 invariant_of-self c =
     let w = c.self.inside.parts in
     let s = c.world_inode.inside in
-    let within : c.args.i < length w.world_inodes.items = omega (arith, c.len.ensures) in
+    let within : c.args.i < length w.world_inodes.items =
+    subst (λ (n : ℕ). c.args.i < n) (c.len.ensures ∙ w.world_inodes.ok.0) c.if-i-len.false in
     let p = c.passes.inside in
     let first : RulesLooked w.rules c.look.new.self s.rules c.look.new.pass =
     record {
@@ -142,7 +149,8 @@ pub returns-clause-consts : goal.returns-clause-consts
 returns-clause-consts c =
     let w = c.self.inside.parts in
     let s = c.world_inode.inside in
-    let within : c.args.i < length w.world_inodes.items = omega (arith, c.len.ensures) in
+    let within : c.args.i < length w.world_inodes.items =
+    subst (λ (n : ℕ). c.args.i < n) (c.len.ensures ∙ w.world_inodes.ok.0) c.if-i-len.false in
     let p = c.passes.inside in
     let first : RulesLooked w.rules c.look.new.self s.rules c.look.new.pass =
     record {
@@ -184,7 +192,8 @@ pub returns-clause-check : goal.returns-clause-check
 returns-clause-check c =
     let w = c.self.inside.parts in
     let s = c.world_inode.inside in
-    let within : c.args.i < length w.world_inodes.items = omega (arith, c.len.ensures) in
+    let within : c.args.i < length w.world_inodes.items =
+    subst (λ (n : ℕ). c.args.i < n) (c.len.ensures ∙ w.world_inodes.ok.0) c.if-i-len.false in
     let p = c.passes.inside in
     let first : RulesLooked w.rules c.look.new.self s.rules c.look.new.pass =
     record {
