@@ -7,7 +7,8 @@ ghost use Rattle.task_runner.specs.Parts.{HaveGone};
 ghost use Rattle.task_runner.specs.Passes.{AreOver, HaveRunInParts, IsInPass, IsPartOver, IsPartStopped, IsPass, StepsAt};
 
 use crate::rounds::has_moved;
-use ima_io::{Gate, Who};
+use crate::turns::pass_gate;
+use ima_io::Gate;
 use std::alloc::AllocError as OutOfMemory;
 use std::sync::Wait;
 use std::thread::{Threads, join_mut};
@@ -28,13 +29,7 @@ fn step_at<N: Name, G: Gate, R: Wait>(
     ensures err { OnErr result (StepsAt N.consts tasks.old tasks.new k None) }
 {
     let task = &mut tasks[k];
-    if let Some(who) = task.who() {
-        gate.pass(Who {
-            task: who.task,
-            call: who.call,
-            step: who.step,
-        });
-    }
+    pass_gate(task, gate);
     task.step_shared(rt, world)
 }
 

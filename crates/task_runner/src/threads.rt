@@ -32,8 +32,7 @@ fn run_shared<N: Name, G: Gate + Sync, R: Threads + Wait + Sync>(
 {
     let live = world.share::<N>()?;
     run_parts(rt, &live, tasks.as_mut_slice(), n, gate)?;
-    let after = live.back()?;
-    Ok(after)
+    live.back()
 }
 
 /// Runs the tasks on at most `n` threads. The world is shared, and the tasks are cut into

@@ -10,6 +10,17 @@ use ima_io::{Gate, Who};
 use std::alloc::AllocError as OutOfMemory;
 use task_core::{Task, Turn, World};
 
+// Passes the gate before the next step of the task, unless its program is over.
+pub(crate) fn pass_gate<G: Gate>(task: &Task, gate: &G) {
+    if let Some(who) = task.who() {
+        gate.pass(Who {
+            task: who.task,
+            call: who.call,
+            step: who.step,
+        });
+    }
+}
+
 /// Makes one turn of the task of this number; passes the gate first unless its program is over. If
 /// memory runs out, no turn was made.
 pub fn turn_at<G: Gate>(
@@ -27,13 +38,7 @@ pub fn turn_at<G: Gate>(
     ensures still { SameRun world.old world.new tasks.old.items tasks.new.items }
 {
     let task = &mut tasks[k];
-    if let Some(who) = task.who() {
-        gate.pass(Who {
-            task: who.task,
-            call: who.call,
-            step: who.step,
-        });
-    }
+    pass_gate(task, gate);
     task.step(world)
 }
 

@@ -1,10 +1,13 @@
 -- The parts have run, and the world has been taken back.
 use Rattle.std.proofs.Common.{◌≡◌, ◌++◌, drop, length, refl, sym, take, ◌∙◌, subst}
 use Rattle.std.specs.Prelude.{All, List}
-use Rattle.std.proofs.lemmas.Result.{err_from_is_err_and}
+use Rattle.std.proofs.lemmas.Result.{IfOk-weaker}
 use Rattle.task_core.specs.worlds.Tasks.{IsTask, Tasked}
+use Rattle.task_core.specs.worlds.World.{WorldValue}
+use Rattle.task_core.specs.worlds.WorldRuns.{SameRun}
 use Rattle.task_runner.proofs.Going.{all_tasks, front_is, gone_named, gone_none, same_run}
 use Rattle.task_runner.proofs.Passing.{parts_named}
+use Rattle.task_runner.specs.Passes.{HaveRunInParts}
 use Rattle.task_runner.proofs.threads.run_shared.Goals as goal
 
 pub returns-in_err-live-clause-tasks : goal.returns-in_err-live-clause-tasks
@@ -33,23 +36,6 @@ returns-in_err-run_parts-clause-tasks g c =
     gone_named c.args.world.consts g.N.Name.consts old c.as_mut_slice.result.now new back
     c.requires.consts c.as_mut_slice.ensures.value is c.requires.tasks c.run_parts.ensures.gone
 
-pub returns-in_err-after-clause-tasks : goal.returns-in_err-after-clause-tasks
-returns-in_err-after-clause-tasks g c =
-    let old = c.args.tasks.now.items in
-    let new = c.run_parts.new.tasks in
-    let back = take c.args.tasks.now.len (new ++ drop (length new) old) in
-    let is : back ≡ new =
-    front_is new (drop (length new) old) c.args.tasks.now.len
-    (c.run_parts.ensures.gone.even ∙ c.as_mut_slice.ensures.len) in
-    gone_named c.args.world.consts g.N.Name.consts old c.as_mut_slice.result.now new back
-    c.requires.consts c.as_mut_slice.ensures.value is c.requires.tasks c.run_parts.ensures.gone
-
-pub returns-in_err-after-clause-parts : goal.returns-in_err-after-clause-parts
-returns-in_err-after-clause-parts g c =
-    let p = err_from_is_err_and c.from_residual-in_err-after.result
-    c.from_residual-in_err-after.ensures.1 in
-    rw (p.1) tt
-
 pub returns-clause-still : goal.returns-clause-still
 returns-clause-still g c =
     let old = c.args.tasks.now.items in
@@ -58,10 +44,12 @@ returns-clause-still g c =
     let is : back ≡ new =
     front_is new (drop (length new) old) c.args.tasks.now.len
     (c.run_parts.ensures.gone.even ∙ c.as_mut_slice.ensures.len) in
-    same_run c.args.world c.in_ok-after.after old back
-    (c.in_ok-after.ensures ∙ sym c.requires.consts)
+    IfOk-weaker c.back.result (λ (w : WorldValue). w.consts ≡ g.N.Name.consts)
+    (λ (w : WorldValue). SameRun c.args.world w old back)
+    (λ w named. same_run c.args.world w old back (named ∙ sym c.requires.consts)
     (gone_named c.args.world.consts g.N.Name.consts old c.as_mut_slice.result.now new back
-    c.requires.consts c.as_mut_slice.ensures.value is c.requires.tasks c.run_parts.ensures.gone)
+    c.requires.consts c.as_mut_slice.ensures.value is c.requires.tasks c.run_parts.ensures.gone))
+    c.back.ensures
 
 pub returns-clause-parts : goal.returns-clause-parts
 returns-clause-parts g c =
@@ -71,8 +59,12 @@ returns-clause-parts g c =
     let is : back ≡ new =
     front_is new (drop (length new) old) c.args.tasks.now.len
     (c.run_parts.ensures.gone.even ∙ c.as_mut_slice.ensures.len) in
-    parts_named c.args.world.consts g.N.Name.consts c.args.n old c.as_mut_slice.result.now new back
-    c.requires.consts c.as_mut_slice.ensures.value is c.in_ok-run_parts.ensures.parts
+    IfOk-weaker c.back.result (λ (w : WorldValue). w.consts ≡ g.N.Name.consts)
+    (λ (w : WorldValue). HaveRunInParts c.args.world.consts c.args.n old back)
+    (λ w named. parts_named c.args.world.consts g.N.Name.consts c.args.n old
+    c.as_mut_slice.result.now new back c.requires.consts c.as_mut_slice.ensures.value is
+    c.in_ok-run_parts.ensures.parts)
+    c.back.ensures
 
 pub returns-clause-tasks : goal.returns-clause-tasks
 returns-clause-tasks g c =
