@@ -43,10 +43,12 @@ impl<N: Name> Locks<N> {
             return Ok(None);
         }
         match due {
-            DueDeed::Take(_) => self.apply_with_list(rt, i, passes, actor, due, hash_state),
-            DueDeed::Finish(_) => { self.apply_with_list(rt, i, passes, actor, due, hash_state) }
-            DueDeed::Chunk(_) => self.apply_page(rt, i, passes, actor, due, hash_state),
-            DueDeed::CloseChunk(_) => { self.apply_page(rt, i, passes, actor, due, hash_state) }
+            DueDeed::Take(_) | DueDeed::Finish(_) => {
+                self.apply_with_list(rt, i, passes, actor, due, hash_state)
+            }
+            DueDeed::Chunk(_) | DueDeed::CloseChunk(_) => {
+                self.apply_page(rt, i, passes, actor, due, hash_state)
+            }
             _ => self.apply_without_list(rt, i, passes, actor, due, hash_state),
         }
     }

@@ -1,5 +1,5 @@
 -- A check of the inode whose lock is held, or of none.
-use Rattle.std.proofs.Common.{◌≡◌, ◌<◌, ◌≤◌, ◌∙◌, ap, arith, length}
+use Rattle.std.proofs.Common.{◌≡◌, ℕ, ◌<◌, ◌≤◌, ◌∙◌, ap, length, subst}
 use Rattle.inode_events.specs.Checks.{no_action}
 use Rattle.inode_events.specs.declared.deed.Deed.TheVariants as deed
 use Rattle.world_locks.proofs.Meeting.{unasked_met}
@@ -11,7 +11,8 @@ pub returns-then-i-len : goal.returns-then-i-len
 returns-then-i-len g c =
     let own = c.args.self.now in
     let none : length g.N.Name.consts.each_inode ≤ c.args.i =
-    omega (arith, c.len.ensures, own.world_inodes.ok.0, own.count) in
+    subst (λ (n : ℕ). n ≤ c.args.i) (c.len.ensures ∙ own.world_inodes.ok.0 ∙ own.count)
+    c.if-i-len.true in
     unasked_met g.N.Name.consts c.args.i c.args.passes.now c.args.actor.now.who
     c.args.actor.now.cred.now c.args.asked none
 
@@ -23,7 +24,8 @@ check-requires-clause-pass g c κs within =
     ap (λ (s : NumberedWorldInode). s.number) c.deref_mut.ensures.value
     ∙ c.take-inode.ensures.number in
     let below : c.args.i < length g.N.Name.consts.each_inode =
-    omega (arith, c.len.ensures, own.world_inodes.ok.0, own.count) in
+    subst (λ (n : ℕ). c.args.i < n) (c.len.ensures ∙ own.world_inodes.ok.0 ∙ own.count)
+    c.if-i-len.false in
     pass_of p.inodes.items p.sems p.book p.rules c.args.passes.now c.passes.view_is
     c.args.actor.now.who g.N.Name.consts c.requires.passes c.args.i
     c.deref_mut.result.now.number taken below c.index_mut.result.now c.index_mut.ensures.value
@@ -36,7 +38,8 @@ check-requires-clause-ready g c κs within =
     ap (λ (s : NumberedWorldInode). s.number) c.deref_mut.ensures.value
     ∙ c.take-inode.ensures.number in
     let below : c.args.i < length g.N.Name.consts.each_inode =
-    omega (arith, c.len.ensures, own.world_inodes.ok.0, own.count) in
+    subst (λ (n : ℕ). c.args.i < n) (c.len.ensures ∙ own.world_inodes.ok.0 ∙ own.count)
+    c.if-i-len.false in
     λ h. ready_of p.inodes.items p.sems p.book p.rules c.args.passes.now c.passes.view_is
     c.args.actor.now.who g.N.Name.consts c.requires.passes c.args.i
     c.deref_mut.result.now.number taken below c.index_mut.result.now c.index_mut.ensures.value
@@ -51,7 +54,8 @@ returns g c =
     ap (λ (s : NumberedWorldInode). s.number) c.deref_mut.ensures.value
     ∙ c.take-inode.ensures.number in
     let below : c.args.i < length g.N.Name.consts.each_inode =
-    omega (arith, c.len.ensures, own.world_inodes.ok.0, own.count) in
+    subst (λ (n : ℕ). c.args.i < n) (c.len.ensures ∙ own.world_inodes.ok.0 ∙ own.count)
+    c.if-i-len.false in
     ask_opened p.inodes.items p.sems p.book p.rules c.args.passes.now c.passes.view_is
     c.args.actor.now.who g.N.Name.consts c.requires.passes c.args.i
     c.deref_mut.result.now.number taken below c.index_mut.result.now c.index_mut.ensures.value
