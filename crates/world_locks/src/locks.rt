@@ -36,32 +36,22 @@ pub struct Locks<N: Name> {
     ghost tasks_are: { tasks ≡ N.consts.tasks },
 }
 
-// Puts the inode of this place under a lock.
-fn lock_at<N: Name>(
-    place: usize,
-    world_inode: WorldInode,
-) -> Result<Mutex<TaggedWorldInode<N>>, OutOfMemory>
-    requires { IsWorldInode N.consts place world_inode }
-{
-    let Ok(number) = u32::try_from(place) else {
-        return Err(OutOfMemory);
-    };
-    Ok(Mutex::new(TaggedWorldInode::<N>::new(number, world_inode)))
-}
-
-// Puts each inode under a lock.
+// Takes each inode out, and puts it under a lock.
 fn lock_each<N: Name>(
     alloc: Global,
-    world_inodes: Vec<WorldInode>,
+    left: &mut Vec<WorldInode>,
 ) -> Result<Vec<Mutex<TaggedWorldInode<N>>>, OutOfMemory>
-    requires { AreWorldInodes N.consts world_inodes.items }
+    requires { AreWorldInodes N.consts left.old.items }
     ensures { IfOk result (λ locked. length locked.items ≡ length N.consts.each_inode) }
 {
-    let mut left = world_inodes;
+    let Ok(count) = u32::try_from(left.len()) else {
+        return Err(OutOfMemory);
+    };
+    let mut number = count;
     let mut locked = Vec::new(alloc);
     while let Some(world_inode) = left.pop() {
-        let mutex = lock_at::<N>(left.len(), world_inode)?;
-        locked.push(mutex)?;
+        number -= 1;
+        locked.push(Mutex::new(TaggedWorldInode::<N>::new(number, world_inode)))?;
     }
     locked.reverse();
     Ok(locked)
@@ -74,12 +64,12 @@ fn unlock_at<N: Name>(
 ) -> Result<WorldInode, OutOfMemory>
     ensures { IfOk result (λ world_inode. IsWorldInode N.consts place world_inode) }
 {
-    let (number, world_inode) = mutex.into_inner().open();
+    let tagged = mutex.into_inner();
     // The inode is in its place, but the type of a lock doesn't say so.
-    if number as usize != place {
+    if tagged.number() as usize != place {
         return Err(OutOfMemory);
     }
-    Ok(world_inode)
+    Ok(tagged.open())
 }
 
 // Takes the inodes out of their locks, in order.
@@ -103,8 +93,10 @@ impl<N: Name> Locks<N> {
     pub fn new(parts: Parts) -> Result<Locks<N>, OutOfMemory>
         requires { KeepConsts N.consts parts }
     {
+        let mut parts = parts;
+        let world_inodes = lock_each::<N>(parts.alloc, &mut parts.world_inodes)?;
         let Parts {
-            world_inodes,
+            world_inodes: _,
             book,
             sems,
             rules,
@@ -114,7 +106,6 @@ impl<N: Name> Locks<N> {
             tasks,
             alloc,
         } = parts;
-        let world_inodes = lock_each::<N>(alloc, world_inodes)?;
         Ok(Locks {
             world_inodes,
             book: Mutex::new(TaggedBook::new(book)),

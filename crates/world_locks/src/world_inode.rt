@@ -66,16 +66,16 @@ impl<N: Name> TaggedWorldInode<N> {
         self.number
     }
 
-    /// Returns the number and the inode.
-    pub fn open(self) -> (u32, WorldInode)
-        ensures { IsWorldInode N.consts result.0 result.1 }
+    /// Returns the inode.
+    pub fn open(self) -> WorldInode
+        ensures { IsWorldInode N.consts self.number result }
     {
         let TaggedWorldInode {
-            number,
+            number: _,
             world_inode,
             of: _,
         } = self;
-        (number, world_inode)
+        world_inode
     }
 
     /// Does a deed that may add to the measurement list, through the task's passes of the journal

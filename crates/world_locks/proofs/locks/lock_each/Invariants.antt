@@ -5,6 +5,7 @@ use Rattle.world_locks.proofs.locks.lock_each.Given as goal
 abbrev pub invariant-loop-world_inode : goal.invariant-loop-world_inode
 invariant-loop-world_inode g l = record {
   all : length l.left.items + length l.locked.items ≡ length g.N.Name.consts.each_inode;
+  number : l.number ≡ length l.left.items;
   each : AreEach g.N.Name.consts l.left.items;
 }
 
