@@ -1,5 +1,5 @@
 -- Runs of a play by its turns.
-use Rattle.std.proofs.Common.{◌≡◌, ℕ, ◌<◌, true, List, [], ◌∷◌, length, map, ap, sym, subst, ◌∙◌}
+use Rattle.std.proofs.Common.{◌≡◌, ℕ, ◌<◌, true, List, [], ◌∷◌, length, ap, sym, subst, ◌∙◌}
 use Rattle.std.specs.Prelude.{All, nat_lt}
 use Rattle.std.specs.List.{list_all}
 use Rattle.std.proofs.lemmas.Bool.{and_parts, ltb-true}
@@ -7,15 +7,15 @@ use Rattle.std.proofs.lemmas.List.{length-map}
 use Rattle.std.proofs.lemmas.List.Elements.{All-cons, All-nil}
 use Rattle.order_outcomes.proofs.Moving.{Fits, start_fits, turn_fits}
 use Rattle.order_outcomes.specs.Orders.{left_at}
-use Rattle.order_outcomes.specs.reports.model.EndedValue.{EndedValue, ended_of}
-use Rattle.order_outcomes.specs.reports.model.Scene.{Program, Scene}
+use Rattle.order_outcomes.specs.reports.model.EndedValue.{ended_of}
+use Rattle.order_outcomes.specs.reports.model.Scene.{Scene}
 use Rattle.order_outcomes.specs.reports.model.Turns.{Moment, run_at, start_of, turn, turns_of}
 use Rattle.order_outcomes.specs.scripts.Forms.{IsScript}
 use Rattle.order_outcomes.specs.scripts.ScriptValue.{ScriptValue}
 use Rattle.order_outcomes.specs.reports.model.steps.declared.ending.Ending.{Ending}
 use Rattle.script_start.specs.Started.{HasStarted}
 use Rattle.task_core.specs.worlds.WorldConsts.{WorldConsts, scene_of}
-use Rattle.task_core.specs.worlds.Runs.{program_of, programs_of}
+use Rattle.task_core.specs.worlds.Runs.{program_of}
 use Rattle.task_core.specs.worlds.Tasks.{Tasked}
 use Rattle.task_core.specs.worlds.World.{WorldValue}
 use Rattle.task_core.specs.worlds.WorldRuns.{SameRun, moment_in, scene_in}

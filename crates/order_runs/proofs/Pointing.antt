@@ -1,5 +1,5 @@
 -- What a turn leaves tells whether it moved its task.
-use Rattle.std.proofs.Common.{◌≡◌, ◌+◌, ◌<◌, ◌≤◌, ◌⊎◌, ℕ, zero, suc, Bool, true, false, nat_lt, List, [], ◌∷◌, ◌++◌, drop, get_or, length, take, Option, Some, None, if◌then◌else◌, slice_get, refl, ap, sym, subst, ◌∙◌, inl, inr, arith, length-append}
+use Rattle.std.proofs.Common.{◌≡◌, ◌+◌, ◌<◌, ◌≤◌, ◌⊎◌, ◌↔◌, IsTrue, ℕ, zero, suc, Bool, true, false, not, nat_lt, List, [], ◌∷◌, ◌++◌, drop, get_or, length, take, Option, Some, None, if◌then◌else◌, slice_get, refl, ap, sym, subst, ◌∙◌, inl, inr, arith, length-append}
 use Rattle.std.specs.List.{list_all}
 use Rattle.std.proofs.lemmas.Bool.{and_from, and_parts, cases_Bool, lt-ltb, true≢false}
 use Rattle.std.proofs.lemmas.List.{drop_more, take_more}
@@ -131,7 +131,7 @@ module _ (scene : Scene) (point : Point) (p : IsPoint scene point) (n : ℕ) (lo
       (same_Some p.0 m (sym p.1.leads ∙ leads))
 
   -- as much is made as before: the turn leads nowhere
-  pub moved_none : longer.made ≡ point.made → IsMoved scene point n (moved scene m n) None
+  moved_none : longer.made ≡ point.made → IsMoved scene point n (moved scene m n) None
   moved_none same =
       let still = (tells scene point.turns m n leads).0 (sym after ∙ same ∙ before) in
       subst (λ (b : Bool).
@@ -139,7 +139,7 @@ module _ (scene : Scene) (point : Point) (p : IsPoint scene point) (n : ℕ) (lo
       (sym still) tt
 
   -- more is made: it leads on
-  pub moved_some : ((longer.made ≡ point.made) → ⊥)
+  moved_some : ((longer.made ≡ point.made) → ⊥)
       → IsMoved scene point n (moved scene m n) (Some longer)
   moved_some more = by (cases_Bool (moves scene m n))
     where
@@ -162,6 +162,15 @@ module _ (scene : Scene) (point : Point) (p : IsPoint scene point) (n : ℕ) (lo
           )
       by (inr stood) =
           absurd (more (after ∙ (tells scene point.turns m n leads).1 stood ∙ sym before))
+
+  -- whether as much is made decides
+  pub moved_unless : (same : Bool) → IsTrue same ↔ (longer.made ≡ point.made) → (o : Option Point)
+      → o ≡ (if not same then Some longer else None) → IsMoved scene point n (moved scene m n) o
+  moved_unless true made_same o is =
+      subst (IsMoved scene point n (moved scene m n)) (sym is) (moved_none (made_same.0 refl))
+  moved_unless false made_same o is =
+      subst (IsMoved scene point n (moved scene m n)) (sym is)
+      (moved_some (λ e. true≢false (sym (made_same.1 e))))
 
 -- ---- turns one after the other
 

@@ -1,6 +1,6 @@
 //! Turns each of which moves its task, and the run that stops after them.
 
-ghost use Rattle.std.specs.Prelude.{◌≡◌, [], ◌<◌, ◌≤◌, None, Some, length, IfOk, MatchOption};
+ghost use Rattle.std.specs.Prelude.{◌≡◌, [], ◌<◌, ◌≤◌, None, Some, if◌then◌else◌, length, IfOk, MatchOption};
 ghost use Rattle.order_outcomes.specs.Made.{made_of};
 ghost use Rattle.order_outcomes.specs.Orders.{moment_after, moved};
 ghost use Rattle.order_outcomes.specs.reports.model.Turns.{Moment};
@@ -55,6 +55,13 @@ fn start<G: Gate>(alloc: Global, play: &Play, gate: &G) -> Result<Point, OutOfMe
     Ok(point)
 }
 
+// The point, if its last turn moves its task.
+fn point_if(moves: bool, point: Point) -> Option<Point>
+    ensures { result ≡ (if moves then Some point else None) }
+{
+    moves.then_some(point)
+}
+
 /// The point after one turn of the task more, if the turn moves it.
 pub fn turned<G: Gate>(
     alloc: Global,
@@ -71,10 +78,8 @@ pub fn turned<G: Gate>(
 {
     let turns = point.turns.then(alloc, task)?;
     let longer = stopped(alloc, play, turns, gate)?;
-    if longer.made.is_same(point.made) {
-        return Ok(None);
-    }
-    Ok(Some(longer))
+    let moves = !longer.made.is_same(point.made);
+    Ok(point_if(moves, longer))
 }
 
 // The point after one turn more of a task that the play may not have.
