@@ -1,11 +1,12 @@
 //! The arguments of a call: words of forms, one after another.
 
-ghost use Rattle.std.specs.Prelude.{◌≡◌, map};
+ghost use Rattle.std.specs.Prelude.{◌≡◌, IfErr, IfOk, map};
 ghost use Rattle.script_words.specs.Gives.{LineGives};
 ghost use Rattle.call_lines.specs.Arguments.{flags_of, opened, way_of};
 
-use crate::form::Form;
+use crate::form::{Form, formed};
 use crate::paths::Paths;
+use crate::table::look_up;
 use call_steps::events::How;
 use script_words::{LineCause, LineErr};
 use std::alloc::Global;
@@ -59,7 +60,7 @@ impl Forms for Way {
     ghost values_of = { λ paths words. ok_or (way_of words) BadField };
 
     fn read(_alloc: Global, _paths: &Paths, words: &[&[u8]]) -> Result<(How, bool), LineErr> {
-        Ok(way_of(words).ok_or(LineCause::BadField)?)
+        formed(way_of(words))
     }
 }
 
@@ -84,16 +85,24 @@ impl<F: Form, R: Forms> Forms for Then<F, R> {
             return Err(LineErr::Refused(LineCause::BadField));
         };
         match F::read(alloc, paths, word) {
-            Ok(first) => {
-                let rest = R::read(alloc, paths, rest)?;
-                Ok((first, rest))
-            }
+            Ok(first) => after(first, R::read(alloc, paths, rest)),
             Err(LineErr::Refused(LineCause::Unknown)) => {
                 let _ = R::read(alloc, paths, rest)?;
                 Err(LineErr::Refused(LineCause::Unknown))
             }
             Err(err) => Err(err),
         }
+    }
+}
+
+// What the first word says, and what the others say.
+fn after<A: Drop, B: Drop>(first: A, rest: Result<B, LineErr>) -> Result<(A, B), LineErr>
+    ensures ok { IfOk result (λ r. (r.0 ≡ first) × (rest ≡ Ok r.1)) }
+    ensures err { IfErr result (λ e. rest ≡ Err e) }
+{
+    match rest {
+        Ok(values) => Ok((first, values)),
+        Err(err) => Err(err),
     }
 }
 
@@ -108,20 +117,15 @@ fn way_of(words: &[&[u8]]) -> Option<(How, bool)>
     opened(way, create, trunc)
 }
 
+// What one flag says: whether the file is created, and whether it is truncated.
+const FLAGS: [(&[u8], (bool, bool)); 2] = [(b"create", (true, false)), (b"trunc", (false, true))];
+
 fn flags_of(flags: &[&[u8]]) -> Option<(bool, bool)>
     ensures { result ≡ flags_of (map (λ w. w.now) flags.now) }
 {
     match flags {
         [] => Some((false, false)),
-        [flag] => {
-            if *flag == b"create".as_slice() {
-                Some((true, false))
-            } else if *flag == b"trunc".as_slice() {
-                Some((false, true))
-            } else {
-                None
-            }
-        }
+        [flag] => look_up(&FLAGS, flag),
         [create, trunc] => {
             if *create == b"create".as_slice() && *trunc == b"trunc".as_slice() {
                 Some((true, true))

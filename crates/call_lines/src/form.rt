@@ -1,10 +1,11 @@
 //! The forms of one word, each read by one function.
 
-ghost use Rattle.std.specs.Prelude.{◌≡◌};
+ghost use Rattle.std.specs.Prelude.{◌≡◌, ok_or};
 ghost use Rattle.script_words.specs.Gives.{LineGives};
 ghost use Rattle.call_lines.specs.Form.{mapping_of};
 
 use crate::paths::Paths;
+use crate::table::look_up;
 use call_steps::events::BoxedBytes;
 use script_words::{
     LineCause, LineErr, descriptor_of, id_of, mode_of, offset_of, portion_of, small_of, value_of,
@@ -30,6 +31,16 @@ pub trait Form {
         ensures { LineGives result (read paths.now word.now) };
 }
 
+/// What a word says, if it has its form.
+pub(crate) fn formed<T: Drop>(value: Option<T>) -> Result<T, LineErr>
+    ensures { LineGives result (ok_or value LineCause.BadField) }
+{
+    match value {
+        Some(value) => Ok(value),
+        None => Err(LineErr::Refused(LineCause::BadField)),
+    }
+}
+
 /// A descriptor.
 pub struct Descriptor;
 
@@ -41,7 +52,7 @@ impl Form for Descriptor {
     ghost read = { (spec.form spec.Form.Descriptor).read };
 
     fn read(_alloc: Global, _paths: &Paths, word: &[u8]) -> Result<u8, LineErr> {
-        Ok(descriptor_of(word).ok_or(LineCause::BadField)?)
+        formed(descriptor_of(word))
     }
 }
 
@@ -56,7 +67,7 @@ impl Form for Small {
     ghost read = { (spec.form spec.Form.Small).read };
 
     fn read(_alloc: Global, _paths: &Paths, word: &[u8]) -> Result<u8, LineErr> {
-        Ok(small_of(word).ok_or(LineCause::BadField)?)
+        formed(small_of(word))
     }
 }
 
@@ -71,7 +82,7 @@ impl Form for Offset {
     ghost read = { (spec.form spec.Form.Offset).read };
 
     fn read(_alloc: Global, _paths: &Paths, word: &[u8]) -> Result<u64, LineErr> {
-        Ok(offset_of(word).ok_or(LineCause::BadField)?)
+        formed(offset_of(word))
     }
 }
 
@@ -86,7 +97,7 @@ impl Form for Portion {
     ghost read = { (spec.form spec.Form.Portion).read };
 
     fn read(_alloc: Global, _paths: &Paths, word: &[u8]) -> Result<u64, LineErr> {
-        Ok(portion_of(word).ok_or(LineCause::BadField)?)
+        formed(portion_of(word))
     }
 }
 
@@ -101,7 +112,7 @@ impl Form for Mode {
     ghost read = { (spec.form spec.Form.Mode).read };
 
     fn read(_alloc: Global, _paths: &Paths, word: &[u8]) -> Result<u16, LineErr> {
-        Ok(mode_of(word).ok_or(LineCause::BadField)?)
+        formed(mode_of(word))
     }
 }
 
@@ -116,7 +127,7 @@ impl Form for Id {
     ghost read = { (spec.form spec.Form.Id).read };
 
     fn read(_alloc: Global, _paths: &Paths, word: &[u8]) -> Result<u32, LineErr> {
-        Ok(id_of(word).ok_or(LineCause::BadField)?)
+        formed(id_of(word))
     }
 }
 
@@ -131,20 +142,17 @@ impl Form for Mapping {
     ghost read = { (spec.form spec.Form.Mapping).read };
 
     fn read(_alloc: Global, _paths: &Paths, word: &[u8]) -> Result<bool, LineErr> {
-        Ok(mapping_of(word).ok_or(LineCause::BadField)?)
+        formed(mapping_of(word))
     }
 }
+
+// Whether a descriptor is mapped for execution, by the word for it.
+const MAPPINGS: [(&[u8], bool); 2] = [(b"read", false), (b"exec", true)];
 
 fn mapping_of(word: &[u8]) -> Option<bool>
     ensures { result ≡ mapping_of word.now }
 {
-    if word == b"read".as_slice() {
-        Some(false)
-    } else if word == b"exec".as_slice() {
-        Some(true)
-    } else {
-        None
-    }
+    look_up(&MAPPINGS, word)
 }
 
 /// The name of an attribute: 1 to 255 visible bytes.
