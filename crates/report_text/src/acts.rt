@@ -64,7 +64,8 @@ fn push_appraise(out: &mut Vec<u8>, appraise: bool, need: Need) -> Result<(), Ou
     }
 }
 
-fn push_flag(out: &mut Vec<u8>, text: &[u8], flag: bool) -> Result<(), OutOfMemory>
+// Prints the text if the flag is set.
+pub fn push_flag(out: &mut Vec<u8>, text: &[u8], flag: bool) -> Result<(), OutOfMemory>
     ensures { OnOk result (out.new.items ≡ out.old.items ++ flag_text text.now flag) }
 {
     if flag {

@@ -43,6 +43,16 @@ pub fn push_numbers(out: &mut Vec<u8>, words: &[u8], numbers: &[u64]) -> Result<
     Ok(())
 }
 
+// Prints two words with a space between them.
+pub fn push_pair(out: &mut Vec<u8>, first: &[u8], second: &[u8]) -> Result<(), OutOfMemory>
+    ensures { OnOk result (out.new.items
+        ≡ out.old.items ++ join_with_byte 32 (first.now ∷ second.now ∷ [])) }
+{
+    out.extend_from_slice(first)?;
+    out.extend_from_slice(b" ")?;
+    out.extend_from_slice(second)
+}
+
 // Prints the words, a space and the number.
 pub fn push_sum(out: &mut Vec<u8>, words: &[u8], n: u128) -> Result<(), OutOfMemory>
     ensures { OnOk result (out.new.items

@@ -7,8 +7,9 @@ ghost use Rattle.text_forms.specs.Words.{text_of};
 ghost use Rattle.report_text.specs.Report.{all_task_lines, reply_lines, reply_words, task_lines};
 ghost use Rattle.report_text.specs.Texts.{line_text};
 
-use crate::push::{cut, push_number, push_numbers};
+use crate::push::{cut, push_number, push_numbers, push_pair};
 use call_steps::Reply;
+use hash_algos::Sha256Digest;
 use ima_io::Pieces;
 use list_format::append_hex;
 use run_model::EndedTask;
@@ -86,10 +87,7 @@ pub fn push_reply(out: &mut Vec<u8>, reply: &Reply) -> Result<(), OutOfMemory>
 {
     match reply {
         Reply::Done => out.extend_from_slice(b"ok"),
-        Reply::Bytes { n, digest } => {
-            push_numbers(out, b"ok", &[u64::from(*n)])?;
-            append_hex(out, b' ', digest.as_slice())
-        }
+        Reply::Bytes { n, digest } => push_bytes(out, *n, digest),
         Reply::NotFound => out.extend_from_slice(b"ENOENT"),
         Reply::BadFile => out.extend_from_slice(b"EBADF"),
         Reply::TextBusy => out.extend_from_slice(b"ETXTBSY"),
@@ -99,13 +97,16 @@ pub fn push_reply(out: &mut Vec<u8>, reply: &Reply) -> Result<(), OutOfMemory>
         Reply::Invalid => out.extend_from_slice(b"EINVAL"),
         Reply::EvmName => out.extend_from_slice(b"EPERM evm-attribute"),
         Reply::NotAdmin => out.extend_from_slice(b"EPERM admin"),
-        Reply::Status(status) => {
-            out.extend_from_slice(b"EPERM ")?;
-            out.extend_from_slice(status.word().as_bytes())
-        }
-        Reply::Denied(cause) => {
-            out.extend_from_slice(b"EACCES ")?;
-            out.extend_from_slice(cause.word().as_bytes())
-        }
+        Reply::Status(status) => push_pair(out, b"EPERM", status.word().as_bytes()),
+        Reply::Denied(cause) => push_pair(out, b"EACCES", cause.word().as_bytes()),
     }
+}
+
+// Prints the answer of a read: the number of bytes, and their digest.
+fn push_bytes(out: &mut Vec<u8>, n: u32, digest: &Sha256Digest) -> Result<(), OutOfMemory>
+    ensures { OnOk result (out.new.items
+        ≡ out.old.items ++ join_with_byte 32 (reply_words (Reply.Bytes n digest.now))) }
+{
+    push_numbers(out, b"ok", &[u64::from(n)])?;
+    append_hex(out, b' ', digest.as_slice())
 }

@@ -5,7 +5,8 @@ ghost use Rattle.std.specs.List.{join_with_byte};
 ghost use Rattle.report_text.specs.Texts.{admitted_text, placed_text, verdict_text};
 ghost use Rattle.report_text.specs.Words.{told_words};
 
-use crate::push::{push_number, push_numbers};
+use crate::acts::push_flag;
+use crate::push::{push_number, push_numbers, push_pair};
 use ima_templates::Placed;
 use inode_events::{Grant, Told};
 use label_values::Verdict;
@@ -35,10 +36,7 @@ pub fn push_told(out: &mut Vec<u8>, told: &Told) -> Result<(), OutOfMemory>
         Told::TooLong => out.extend_from_slice(b"toolong"),
         Told::Invalid => out.extend_from_slice(b"invalid"),
         Told::NoData => out.extend_from_slice(b"nodata"),
-        Told::Status(status) => {
-            out.extend_from_slice(b"status ")?;
-            out.extend_from_slice(status.word().as_bytes())
-        }
+        Told::Status(status) => push_pair(out, b"status", status.word().as_bytes()),
         Told::Dropped => out.extend_from_slice(b"dropped"),
         Told::LabelledDropped => out.extend_from_slice(b"labelled dropped"),
         Told::Nothing => out.extend_from_slice(b"nothing"),
@@ -90,9 +88,5 @@ fn push_admitted(out: &mut Vec<u8>, admitted: bool, labelled: bool) -> Result<()
     } else {
         b"refused"
     })?;
-    out.extend_from_slice(if labelled {
-        b" labelled".as_slice()
-    } else {
-        b""
-    })
+    push_flag(out, b" labelled", labelled)
 }

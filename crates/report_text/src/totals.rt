@@ -87,17 +87,17 @@ fn count_replies(tasks: &[EndedTask]) -> Replies
 fn count_ok(replies: &[Reply]) -> usize
     ensures { result ≡ count_by is_ok_reply replies.now }
 {
-    replies.iter().filter(|r| is_ok_reply(**r)).count()
+    replies.iter().filter(|r| is_ok_reply(*r)).count()
 }
 
 fn count_refused(replies: &[Reply]) -> usize
     ensures { result ≡ count_by (λ r. not (is_ok_reply r)) replies.now }
 {
-    replies.iter().filter(|r| !is_ok_reply(**r)).count()
+    replies.iter().filter(|r| !is_ok_reply(*r)).count()
 }
 
-fn is_ok_reply(reply: Reply) -> bool
-    ensures { result ≡ is_ok_reply reply }
+fn is_ok_reply(reply: &Reply) -> bool
+    ensures { result ≡ is_ok_reply reply.now }
 {
     match reply {
         Reply::Done | Reply::Bytes { .. } => true,
