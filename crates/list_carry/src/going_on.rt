@@ -1,6 +1,6 @@
 // The list of a boot that goes on from an earlier one.
 
-ghost use Rattle.std.specs.Prelude.{◌≡◌, ◌≤◌, [], length, IfOk, OnOk};
+ghost use Rattle.std.specs.Prelude.{◌≡◌, ◌≤◌, length, IfOk, OnOk};
 ghost use Rattle.std.specs.List.{fold};
 ghost use Rattle.measure_book.specs.Replay.{banks_of};
 ghost use Rattle.ima_templates.specs.Same.{add};
@@ -26,45 +26,28 @@ pub fn carry_on(
     ensures banks { IfOk result (λ r. r.1 ≡ banks_of (carried_on carried entries.items)) }
     ensures carried { IfOk result (λ r. IsCarried r.0.items) }
 {
-    let (mut book, mut pass, others) = begin(alloc, carried, entries)?;
+    let mut others = entries;
+    let (mut book, mut pass) = begin(alloc, carried, &mut others)?;
     add_each(&mut book, &mut pass, others)?;
     close(alloc, book, pass)
 }
 
-// The book that goes on from the list, with its pass and the entries to add. Without a list the
-// book begins with the first entry.
+// The book that goes on from the list, with its pass. Without a list the book begins with the first
+// entry, which is taken from those to add.
 fn begin(
     alloc: Global,
     carried: Option<Carried>,
-    entries: Vec<Entry>,
-) -> Result<(Book, Pass<Entry>, Vec<Entry>), OutOfMemory>
-    requires { 1 ≤ length entries.items }
+    entries: &mut Vec<Entry>,
+) -> Result<(Book, Pass<Entry>), OutOfMemory>
+    requires { 1 ≤ length entries.old.items }
     ensures going { IfOk result (λ r. GoesOn r.0 r.1) }
-    ensures list { IfOk result (λ r. fold add r.0.list r.2.items
-        ≡ carried_on carried entries.items) }
+    ensures list { IfOk result (λ r. fold add r.0.list entries.new.items
+        ≡ carried_on carried entries.old.items) }
 {
     match carried {
-        Some(list) => {
-            let (book, pass) = resume(list)?;
-            Ok((book, pass, entries))
-        }
-        None => begin_empty(alloc, entries),
+        Some(list) => resume(list),
+        None => start(alloc, entries.remove(0)),
     }
-}
-
-// A book that begins with the first entry, with its pass and the other entries.
-fn begin_empty(
-    alloc: Global,
-    entries: Vec<Entry>,
-) -> Result<(Book, Pass<Entry>, Vec<Entry>), OutOfMemory>
-    requires { 1 ≤ length entries.items }
-    ensures going { IfOk result (λ r. GoesOn r.0 r.1) }
-    ensures list { IfOk result (λ r. fold add r.0.list r.2.items ≡ fold add [] entries.items) }
-{
-    let mut others = entries;
-    let first = others.remove(0);
-    let (book, pass) = start(alloc, first)?;
-    Ok((book, pass, others))
 }
 
 // Adds the entries in order.
