@@ -9,28 +9,19 @@ use std::sync::Wait;
 use std::thread::Threads;
 
 // How many callers there are, how many buffers each of them has, and how often they run.
-const CALLERS: u32 = 64;
+const CALLERS: usize = 64;
 
 const BUFFERS: usize = 512;
 
 const RUNS: u32 = 100;
 
-// The text of one caller.
-fn caller(alloc: Global) -> Result<String, OutOfMemory> {
-    let text = "caller uid=0 euid=0 gid=0 egid=0\n{{0..512 critical b{} hex:\n}}";
-    let text = spread(alloc, text)?;
-    Ok(text.unwrap_or(String::new(alloc)))
-}
+// One caller.
+const CALLER: &str = "caller uid=0 euid=0 gid=0 egid=0\n{{0..512 critical b{} hex:\n}}";
 
 // The text of the callers.
 fn text(alloc: Global) -> Result<String, OutOfMemory> {
-    let caller = caller(alloc)?;
-    let mut text = String::from_str(alloc, "imabuffers 1\nrule measure func=CRITICAL_DATA\n")?;
-    for _ in 0..CALLERS {
-        text.push_str(caller.as_str())?;
-    }
-    text.push_str("threads 16\n")?;
-    Ok(text)
+    let callers = spread(alloc, CALLER)?.as_str().repeat(alloc, CALLERS)?;
+    format!(in alloc; "imabuffers 1\nrule measure func=CRITICAL_DATA\n{callers}threads 16\n")
 }
 
 // The place in the list that the answer to this buffer names.
@@ -91,25 +82,31 @@ fn each_takes_one(free: &mut [bool], callers: &[Answers]) -> bool {
 }
 
 // Whether each buffer has an entry of its own, which one caller has added and all others found.
-fn is_shared(alloc: Global, run: &BufferRun) -> Result<bool, OutOfMemory> {
-    let mut free = vec![in alloc; true; run.list.len()]?;
-    let each = each_takes_one(&mut free, &run.answers);
-    Ok(each && run.list.len() == BUFFERS.saturating_add(1))
+fn is_shared(alloc: Global, run: &BufferRun) -> bool {
+    match vec![in alloc; true; run.list.len()] {
+        Ok(mut free) => {
+            each_takes_one(&mut free, &run.answers) && run.list.len() == BUFFERS.saturating_add(1)
+        }
+        Err(_) => false,
+    }
+}
+
+// Whether a run has such a list.
+fn run_is_shared<R: Threads + Wait + Sync>(rt: &R, alloc: Global, text: &BufferText) -> bool {
+    match measure_all(rt, alloc, text, &FreeGate) {
+        Ok(run) => is_shared(alloc, &run),
+        Err(_) => false,
+    }
 }
 
 // Whether each of the runs has such a list.
-fn runs_are_shared<R: Threads + Wait + Sync>(
-    rt: &R,
-    alloc: Global,
-    text: &BufferText,
-) -> Result<bool, OutOfMemory> {
+fn runs_are_shared<R: Threads + Wait + Sync>(rt: &R, alloc: Global, text: &BufferText) -> bool {
     for _ in 0..RUNS {
-        let run = measure_all(rt, alloc, text, &FreeGate)?;
-        if !is_shared(alloc, &run)? {
-            return Ok(false);
+        if !run_is_shared(rt, alloc, text) {
+            return false;
         }
     }
-    Ok(true)
+    true
 }
 
 // The callers of a text, which is short.
@@ -121,15 +118,20 @@ fn callers_of(alloc: Global, text: &str) -> Result<BufferText, ScriptErr> {
     parse(alloc, bytes)
 }
 
-/// Whether 64 callers on 16 threads share one list: each of its entries but the first was added by
-/// one of them, and all others have found it there, in each of a hundred runs.
-pub fn buffers_are_shared<R: Threads + Wait + Sync>(
-    rt: &R,
-    alloc: Global,
-) -> Result<bool, ScriptErr> {
+// The 64 callers.
+fn all_callers(alloc: Global) -> Result<BufferText, ScriptErr> {
     let text = text(alloc)?;
-    let callers = callers_of(alloc, text.as_str())?;
-    Ok(runs_are_shared(rt, alloc, &callers)?)
+    callers_of(alloc, text.as_str())
+}
+
+/// Whether 64 callers on 16 threads share one list: each of its entries but the first was added by
+/// one of them, and all others have found it there, in each of a hundred runs. They don't if memory
+/// runs out.
+pub fn buffers_are_shared<R: Threads + Wait + Sync>(rt: &R, alloc: Global) -> bool {
+    match all_callers(alloc) {
+        Ok(callers) => runs_are_shared(rt, alloc, &callers),
+        Err(_) => false,
+    }
 }
 
 // Two callers, each of which measures a buffer of its own.
@@ -140,10 +142,11 @@ const TWO: &str = "# meet\nimabuffers 1\n\
     threads 2\n";
 
 /// Whether two callers that wait for each other before their first buffers meet there if
-/// `measure_all` is called without a command around it.
-pub fn callers_meet<R: Threads + Wait + Sync>(rt: &R, alloc: Global) -> Result<bool, ScriptErr> {
+/// `measure_all` is called without a command around it. They don't if memory runs out.
+pub fn callers_meet<R: Threads + Wait + Sync>(rt: &R, alloc: Global) -> bool {
     let gate = CaseGate::of(TWO);
-    let callers = callers_of(alloc, TWO)?;
-    let _run = measure_all(rt, alloc, &callers, &gate)?;
-    Ok(gate.is_well())
+    match callers_of(alloc, TWO) {
+        Ok(callers) => measure_all(rt, alloc, &callers, &gate).is_ok() && gate.is_well(),
+        Err(_) => false,
+    }
 }

@@ -1,5 +1,5 @@
 // A case of a family, and the check of an outcome against it.
-use crate::cuts::cut;
+use crate::cuts::{cut, number};
 use crate::outcome::Outcome;
 use std::str;
 
@@ -31,7 +31,7 @@ pub struct Case<'a> {
     pub name: &'a str,
     pub words: &'a str,
     pub input: &'a str,
-    pub status: u8,
+    pub status: u32,
     pub whole: bool,
     pub out: &'a str,
     pub anywhere: &'a str,
@@ -39,8 +39,9 @@ pub struct Case<'a> {
 }
 
 impl<'a> Case<'a> {
-    /// Parses the text of a case, which begins after the mark `>>> `.
-    pub fn of(text: &'a str) -> Option<Case<'a>> {
+    /// Parses the text of a case, which begins after the mark `>>> `. If a mark isn't there, the
+    /// status is a number that no outcome has.
+    pub fn of(text: &'a str) -> Case<'a> {
         let (name, rest) = cut(text, "\n");
         let (words, rest) = cut(rest, "\n");
         let (input, rest) = cut(rest, "--- ");
@@ -48,23 +49,21 @@ impl<'a> Case<'a> {
         let (form, status) = cut(head, " ");
         let (rest, note) = cut(rest, "--- notes\n");
         let (out, anywhere) = cut(rest, "--- anywhere\n");
-        // There is no status if a mark before it isn't there.
-        let status = status.parse().ok()?;
-        Some(Case {
+        Case {
             name,
             words,
             input,
-            status,
+            status: number(status),
             whole: form == "writes",
             out,
             anywhere,
             note,
-        })
+        }
     }
 
     /// Whether the outcome meets the case.
     pub fn holds(&self, got: &Outcome) -> bool {
-        let told = got.status == self.status && got.note() == self.note.as_bytes();
+        let told = got.status as u32 == self.status && got.note() == self.note.as_bytes();
         told && self.is_written(got.out())
     }
 
@@ -85,17 +84,17 @@ impl<'a> Case<'a> {
 // Whether the output has all of these lines, in this order.
 fn has_lines(out: &str, lines: &str) -> bool {
     let mut found = 0usize;
-    for line in out.split('\n') {
+    for line in out.split("\n") {
         if is_line_at(lines, found, line) {
             found = found.saturating_add(1);
         }
     }
-    found == lines.lines().count()
+    found == lines.split("\n").count()
 }
 
 // Whether the line is the wanted one of this place.
 fn is_line_at(lines: &str, place: usize, line: &str) -> bool {
-    match lines.lines().nth(place) {
+    match lines.split("\n").nth(place) {
         Some(want) => is_wanted(line, want),
         None => false,
     }
@@ -111,7 +110,7 @@ fn is_wanted(line: &str, want: &str) -> bool {
 
 // Whether each of these is the end of some line of the output.
 fn has_ends(out: &str, ends: &str) -> bool {
-    for end in ends.lines() {
+    for end in ends.split("\n") {
         if !has_end(out, end) {
             return false;
         }
@@ -121,7 +120,7 @@ fn has_ends(out: &str, ends: &str) -> bool {
 
 // Whether some line of the output ends in `end`.
 fn has_end(out: &str, end: &str) -> bool {
-    for line in out.split('\n') {
+    for line in out.split("\n") {
         if line.ends_with(end) {
             return true;
         }

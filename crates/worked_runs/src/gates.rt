@@ -5,25 +5,26 @@ use ima_io::{Gate, Who};
 use std::hint;
 use std::sync::atomic::{AtomicBool, AtomicUsize, Ordering};
 
-/// A step of a run: its task, its call and its number in the call.
-type Step = (u32, u32, u32);
-
 /// How often a task looks for another at most. That takes about a second, in which one on another
 /// thread comes; so the tasks that must not meet wait as long as those that must.
 const MOST_LOOKS: u64 = 100_000_000;
 
 // The step of a word TASK.CALL.STEP. A word of another form has a number that no step has.
-fn step_of(word: &str) -> Step {
+fn step_of(word: &str) -> Who {
     let (task, rest) = cut(word, ".");
     let (call, step) = cut(rest, ".");
-    (number(task), number(call), number(step))
+    Who {
+        task: number(task),
+        call: number(call),
+        step: number(step),
+    }
 }
 
 // Whether each of the words has the form of a step.
 fn are_steps(words: &str) -> bool {
     for word in words.split_whitespace() {
-        let (task, call, step) = step_of(word);
-        if task == u32::MAX || call == u32::MAX || step == u32::MAX {
+        let step = step_of(word);
+        if step.task == u32::MAX || step.call == u32::MAX || step.step == u32::MAX {
             return false;
         }
     }
@@ -31,14 +32,13 @@ fn are_steps(words: &str) -> bool {
 }
 
 // Whether the step is of the same task as the other, and after it.
-fn is_later(step: Step, other: Step) -> bool {
-    let (task, call, number) = step;
-    let (its, its_call, its_number) = other;
-    task == its && (call > its_call || (call == its_call && number > its_number))
+fn is_later(step: Who, other: Who) -> bool {
+    step.task == other.task
+        && (step.call > other.call || (step.call == other.call && step.step > other.step))
 }
 
 // The step at this place among the words.
-fn step_at(words: &str, at: usize) -> Option<Step> {
+fn step_at(words: &str, at: usize) -> Option<Who> {
     match words.split_whitespace().nth(at) {
         Some(word) => Some(step_of(word)),
         None => None,
@@ -46,7 +46,7 @@ fn step_at(words: &str, at: usize) -> Option<Step> {
 }
 
 // The place of the step among the words.
-fn place_of(words: &str, step: Step) -> Option<usize> {
+fn place_of(words: &str, step: Who) -> Option<usize> {
     let mut place = 0usize;
     for word in words.split_whitespace() {
         if step_of(word) == step {
@@ -150,7 +150,7 @@ impl<'a> CaseGate<'a> {
     }
 
     // Takes the step as the due one, or notes that it is another.
-    fn take(&self, step: Step) {
+    fn take(&self, step: Who) {
         let at = self.done.fetch_add(1, Ordering::SeqCst);
         if step_at(self.steps, at) != Some(step) {
             self.miss();
@@ -166,8 +166,8 @@ impl<'a> CaseGate<'a> {
     }
 
     // Lets the first step of each of two tasks wait for that of the other.
-    fn pair(&self, step: Step) {
-        match step {
+    fn pair(&self, step: Who) {
+        match (step.task, step.call, step.step) {
             (0, 0, 0) => self.meet(&self.first, &self.second),
             (1, 0, 0) => self.meet(&self.second, &self.first),
             _ => (),
@@ -175,7 +175,7 @@ impl<'a> CaseGate<'a> {
     }
 
     // Notes that the due step is done if its task comes with a later one.
-    fn note(&self, step: Step) {
+    fn note(&self, step: Who) {
         let done = self.done.load(Ordering::SeqCst);
         if let Some(due) = step_at(self.steps, done)
             && is_later(step, due)
@@ -196,7 +196,7 @@ impl<'a> CaseGate<'a> {
     }
 
     // Holds the step until the one before it is done.
-    fn hold(&self, step: Step) {
+    fn hold(&self, step: Who) {
         self.note(step);
         if let Some(place) = place_of(self.steps, step)
             && !self.missed.load(Ordering::SeqCst)
@@ -209,12 +209,11 @@ impl<'a> CaseGate<'a> {
 
 impl Gate for CaseGate<'_> {
     fn pass(&self, who: Who) {
-        let step = (who.task, who.call, who.step);
         match self.kind {
             Kind::Free => (),
-            Kind::Order => self.hold(step),
-            Kind::Exactly => self.take(step),
-            Kind::Meet | Kind::Apart => self.pair(step),
+            Kind::Order => self.hold(who),
+            Kind::Exactly => self.take(who),
+            Kind::Meet | Kind::Apart => self.pair(who),
         }
     }
 }

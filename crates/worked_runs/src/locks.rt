@@ -1,12 +1,12 @@
 // Steps of two tasks on threads, while a third thread holds the file of one of them.
-ghost use Rattle.std.specs.Prelude.{◌≡◌, ◌<◌, All, length};
+ghost use Rattle.std.specs.Prelude.{◌≡◌, ◌<◌, true, All, IfOk, length};
 ghost use Rattle.std.specs.Thread.{IsSync};
 ghost use Rattle.ima_top.specs.worlds.Tasks.{IsTask};
 
 use crate::gates::sees;
-use crate::start::started;
+use script_run::started;
 use script_text::{ScriptErr, parse};
-use std::alloc::{AllocError as OutOfMemory, Global};
+use std::alloc::Global;
 use std::marker::Brand;
 use std::sync::Wait;
 use std::sync::atomic::{AtomicBool, Ordering};
@@ -66,21 +66,30 @@ fn step_while_held<N: Name, R: Wait>(
     live: &Live<N>,
     flags: &Flags,
     inode: u32,
-    task: Task,
+    task: &mut Task,
 ) -> bool
-    requires { IsTask N.consts task }
+    requires { IsTask N.consts task.old }
 {
-    let mut task = task;
     let held = sees(&flags.held);
-    let waits = task.who().is_some_and(|who| who.task == inode);
-    let begun = step(rt, live, &mut task);
+    let waits = matches!(task.who(), Some(who) if who.task == inode);
+    let begun = step(rt, live, task);
     if waits {
         flags.waiting.store(true, Ordering::SeqCst);
         return held && begun;
     }
-    let done = step(rt, live, &mut task);
+    let done = step(rt, live, task);
     flags.free.store(true, Ordering::SeqCst);
     held && begun && done
+}
+
+// Whether each of these is true.
+fn are_set(flags: &[bool]) -> bool {
+    for flag in flags {
+        if !*flag {
+            return false;
+        }
+    }
+    true
 }
 
 // Each task in a thread of its own. Answers whether all their steps moved.
@@ -98,28 +107,28 @@ fn step_all<N: Name, R: Threads + Wait + Sync>(
         tasks,
         &|task: Task| -> bool
             requires { IsTask N.consts task }
-        { step_while_held(rt, live, flags, inode, task) },
+        {
+            let mut task = task;
+            step_while_held(rt, live, flags, inode, &mut task)
+        },
     );
     match moved {
-        Ok(moved) => moved.iter().all(|well| *well),
+        Ok(moved) => are_set(&moved),
         Err(_) => false,
     }
 }
 
 // Whether, while the file of this number was held, the task that opens the other made its steps,
 // and the task that opens it none.
-fn are_apart<N: Name, R: Threads + Wait + Sync>(
+fn were_apart<N: Name, R: Threads + Wait + Sync>(
     rt: &R,
-    world: World,
+    live: &Live<N>,
     inode: u32,
     tasks: Vec<Task>,
-) -> Result<bool, OutOfMemory>
-    requires consts { world.consts ≡ N.consts }
+) -> bool
     requires inode { inode < length N.consts.each_inode }
     requires tasks { All (IsTask N.consts) tasks.items }
 {
-    let live = world.share::<N>()?;
-    let shared = &live;
     let flags = Flags {
         held: AtomicBool::new(false),
         waiting: AtomicBool::new(false),
@@ -131,38 +140,62 @@ fn are_apart<N: Name, R: Threads + Wait + Sync>(
         rt,
         ||
             requires { inode < length N.consts.each_inode }
-        { hold(rt, shared, told, inode) },
+        { hold(rt, live, told, inode) },
         move || -> bool
             requires { IsSync R.row × All (IsTask N.consts) tasks.items }
-        { step_all(rt, shared, told, inode, tasks) },
+        { step_all(rt, live, told, inode, tasks) },
     );
-    Ok(moved && flags.apart.load(Ordering::SeqCst))
+    moved && flags.apart.load(Ordering::SeqCst)
+}
+
+// The same of the tasks of this world.
+fn are_apart<N: Name, R: Threads + Wait + Sync>(
+    rt: &R,
+    world: World,
+    inode: u32,
+    tasks: Vec<Task>,
+) -> bool
+    requires consts { world.consts ≡ N.consts }
+    requires inode { inode < length N.consts.each_inode }
+    requires tasks { All (IsTask N.consts) tasks.items }
+{
+    match world.share::<N>() {
+        Ok(live) => were_apart(rt, &live, inode, tasks),
+        Err(_) => false,
+    }
+}
+
+// The world of the script and its tasks before their first turn.
+fn opened(alloc: Global) -> Result<(World, Vec<Task>), ScriptErr>
+    ensures { IfOk result (λ r. All (IsTask r.0.consts) r.1.items) }
+{
+    let script = parse(alloc, OPENS.as_bytes())?;
+    let (world, tasks, _ending) = started(alloc, script)?;
+    Ok((world, tasks))
+}
+
+// Whether the world has an inode of this number.
+fn has_inode(world: &World, inode: u32) -> bool
+    ensures { result ≡ true → inode < length world.now.consts.each_inode }
+{
+    match world.inode(inode as usize) {
+        Some(_) => true,
+        None => false,
+    }
 }
 
 // The same of a run of its own of the script.
-fn is_apart<R: Threads + Wait + Sync>(
-    rt: &R,
-    alloc: Global,
-    inode: u32,
-) -> Result<bool, ScriptErr> {
-    let script = parse(alloc, OPENS.as_bytes())?;
-    let (world, tasks, inodes) = started(alloc, script)?;
-    if inode as usize >= inodes {
-        return Ok(false);
+fn is_apart<R: Threads + Wait + Sync>(rt: &R, alloc: Global, inode: u32) -> bool {
+    match opened(alloc) {
+        Ok((world, tasks)) => {
+            has_inode(&world, inode) && are_apart::<Brand, R>(rt, world, inode, tasks)
+        }
+        Err(_) => false,
     }
-    Ok(are_apart::<Brand, R>(rt, world, inode, tasks)?)
 }
 
 /// Whether each inode is under a lock of its own: while a thread holds one, a task makes its steps
-/// on the other, and one that opens the held one waits.
-pub fn inodes_are_apart<R: Threads + Wait + Sync>(
-    rt: &R,
-    alloc: Global,
-) -> Result<bool, ScriptErr> {
-    for inode in 0..2 {
-        if !is_apart(rt, alloc, inode)? {
-            return Ok(false);
-        }
-    }
-    Ok(true)
+/// on the other, and one that opens the held one waits. It is not if memory runs out.
+pub fn inodes_are_apart<R: Threads + Wait + Sync>(rt: &R, alloc: Global) -> bool {
+    is_apart(rt, alloc, 0) && is_apart(rt, alloc, 1)
 }

@@ -32,9 +32,9 @@ mod gates;
 mod locks;
 mod outcome;
 mod spread;
-mod start;
 
 use crate::cases::Case;
+use crate::cuts::cut;
 use crate::faults::FAULTS;
 use crate::gates::CaseGate;
 use crate::outcome::{Outcome, SOUND, answer_over};
@@ -93,10 +93,11 @@ fn main(rt: HostRuntime) -> io::Result<()> {
     }
 }
 
-// The text of the family's file.
+// The text of the family's file, with what it repeats.
 fn text_of(rt: &HostRuntime, family: &str) -> io::Result<String> {
     let name = format!(in rt.alloc(); "{family}.cases")?;
-    fs::read_to_string(rt, name.as_str())
+    let text = fs::read_to_string(rt, name.as_str())?;
+    Ok(spread(rt.alloc(), text.as_str())?)
 }
 
 // Runs each case of the family `times` times, and returns whether all hold.
@@ -108,24 +109,11 @@ fn family_holds<R: Print + Threads + Wait + Sync>(
     text: &str,
 ) -> io::Result<bool> {
     let mut all = true;
-    for part in text.split(">>> ").skip(1) {
-        all = part_holds(rt, alloc, family, times, part)? && all;
+    let (_, cases) = cut(text, ">>> ");
+    for text in cases.split(">>> ") {
+        all = text_holds(rt, alloc, family, times, text)? && all;
     }
     Ok(all)
-}
-
-// Runs the case of this text, which may repeat itself.
-fn part_holds<R: Print + Threads + Wait + Sync>(
-    rt: &R,
-    alloc: Global,
-    family: &str,
-    times: u32,
-    text: &str,
-) -> io::Result<bool> {
-    let Some(whole) = spread(alloc, text)? else {
-        return row(rt, family, text, false);
-    };
-    text_holds(rt, alloc, family, times, whole.as_str())
 }
 
 // Runs the case of this text so often.
@@ -136,9 +124,7 @@ fn text_holds<R: Print + Threads + Wait + Sync>(
     times: u32,
     text: &str,
 ) -> io::Result<bool> {
-    let Some(case) = Case::of(text) else {
-        return row(rt, family, text, false);
-    };
+    let case = Case::of(text);
     for _ in 0..times {
         if !case_holds(rt, alloc, family, &case)? {
             return Ok(false);
@@ -158,16 +144,17 @@ fn case_holds<R: Print + Threads + Wait + Sync>(
     let input = case.input.as_bytes();
     let got = answer_over(rt, alloc, case.words, input, SOUND, &gate)?;
     if case.holds(&got) && gate.is_well() {
-        return Ok(true);
+        Ok(true)
+    } else {
+        tell(rt, family, case.name, &got)
     }
-    tell(rt, family, case.name, &got)?;
-    Ok(false)
 }
 
-// Prints an outcome that differs.
-fn tell(rt: &impl Print, family: &str, name: &str, got: &Outcome) -> io::Result<()> {
+// Prints an outcome that differs, and returns that the case doesn't hold.
+fn tell(rt: &impl Print, family: &str, name: &str, got: &Outcome) -> io::Result<bool> {
     println!(rt; "{family}: {name}: DIFFERS: {}", got.status)?;
-    println!(rt; "{}{}", shown(got.out()), shown(got.note()))
+    println!(rt; "{}{}", shown(got.out()), shown(got.note()))?;
+    Ok(false)
 }
 
 // The text that the bytes are.
@@ -198,10 +185,9 @@ fn faults_hold<R: Print + Threads + Wait + Sync>(
     alloc: Global,
     text: &str,
 ) -> io::Result<bool> {
-    match Case::of(text.split(">>> ").nth(1).unwrap_or("")) {
-        Some(case) => all_faults_hold(rt, alloc, &case),
-        None => row(rt, "faults", "the first case", false),
-    }
+    let (_, cases) = cut(text, ">>> ");
+    let (first, _) = cut(cases, ">>> ");
+    all_faults_hold(rt, alloc, &Case::of(first))
 }
 
 // Tries the faults on the case.
@@ -212,7 +198,7 @@ fn all_faults_hold<R: Print + Threads + Wait + Sync>(
 ) -> io::Result<bool> {
     let mut all = true;
     for (name, fault) in &FAULTS {
-        let well = faults::holds(rt, alloc, case, *fault)?;
+        let well = faults::holds(rt, alloc, case, *fault);
         all = row(rt, "faults", name, well)? && all;
     }
     Ok(all)
@@ -220,9 +206,9 @@ fn all_faults_hold<R: Print + Threads + Wait + Sync>(
 
 // Checks how callers of buffers run side by side, and that files are apart.
 fn callers_hold<R: Print + Threads + Wait + Sync>(rt: &R, alloc: Global) -> io::Result<bool> {
-    let alone = callers::callers_meet(rt, alloc).unwrap_or(false);
-    let shared = callers::buffers_are_shared(rt, alloc).unwrap_or(false);
-    let apart = locks::inodes_are_apart(rt, alloc).unwrap_or(false);
+    let alone = callers::callers_meet(rt, alloc);
+    let shared = callers::buffers_are_shared(rt, alloc);
+    let apart = locks::inodes_are_apart(rt, alloc);
     let alone = row(rt, "callers", "two of them meet without a command", alone)?;
     let shared = row(rt, "callers", "64 of them measure the same buffers", shared)?;
     let apart = row(rt, "locks", "each file has its own", apart)?;

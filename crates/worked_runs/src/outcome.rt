@@ -120,7 +120,8 @@ pub fn answer_over<G: Gate + Sync, R: Threads + Wait + Sync>(
     Ok(did)
 }
 
-/// Whether the words have this outcome on this input, over such streams.
+/// Whether the words have this outcome on this input, over such streams. They have none if memory
+/// runs out.
 pub fn answers<R: Threads + Wait + Sync>(
     rt: &R,
     alloc: Global,
@@ -128,7 +129,9 @@ pub fn answers<R: Threads + Wait + Sync>(
     input: &[u8],
     streams: Streams,
     wanted: (u8, &[u8], &str),
-) -> Result<bool, OutOfMemory> {
-    let did = answer_over(rt, alloc, words, input, streams, &FreeGate)?;
-    Ok(did.is(wanted.0, wanted.1, wanted.2))
+) -> bool {
+    match answer_over(rt, alloc, words, input, streams, &FreeGate) {
+        Ok(did) => did.is(wanted.0, wanted.1, wanted.2),
+        Err(_) => false,
+    }
 }

@@ -3,12 +3,14 @@ use crate::cuts::cut;
 use std::alloc::{AllocError as OutOfMemory, Global};
 
 /// The text in which each `{{FROM..TO TEXT}}` stands for its TEXT once for each number from FROM on
-/// and below TO, with the number in place of each `{}`. None if one of them has another form.
-pub fn spread(alloc: Global, text: &str) -> Result<Option<String>, OutOfMemory> {
+/// and below TO, with the number in place of each `{}`. Empty if one of them has another form.
+pub fn spread(alloc: Global, text: &str) -> Result<String, OutOfMemory> {
     let (front, marks) = cut(text, "{{");
     let mut out = String::from_str(alloc, front)?;
-    let well = front.len() == text.len() || push_marks(&mut out, marks)?;
-    Ok(well.then_some(out))
+    if front.len() < text.len() && !push_marks(&mut out, marks)? {
+        out.clear();
+    }
+    Ok(out)
 }
 
 // Appends what stands after the first `{{`. Answers whether each mark has its form.
@@ -36,7 +38,7 @@ fn push_mark(out: &mut String, mark: &str) -> Result<bool, OutOfMemory> {
 // The first number, the one after the last, the text, and what comes after the mark.
 fn parts_of(mark: &str) -> Option<(u32, u32, &str, &str)> {
     let (inner, rest) = mark.split_once("}}")?;
-    let (numbers, piece) = inner.split_once(' ')?;
+    let (numbers, piece) = inner.split_once(" ")?;
     let (from, to) = cut(numbers, "..");
     Some((from.parse().ok()?, to.parse().ok()?, piece, rest))
 }
