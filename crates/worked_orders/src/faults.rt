@@ -19,21 +19,21 @@ fn failing_read(call: u64, room: usize) -> Streams {
 
 /// Whether a source that gives 32 bytes a call is read up to its end, and reading fails with the
 /// call that fails.
-pub fn reads_fail(alloc: Global, input: &[u8], whole: &[u8]) -> Result<bool, OutOfMemory> {
+pub fn reads_fail(alloc: Global, input: &[u8], whole: &[u8]) -> bool {
     let last = input.len().div_ceil(32) as u64;
     let wanted = (READ_FAULT, b"".as_slice(), "read fault\n");
     for call in 0..=last {
-        if !answers(alloc, "", input, failing_read(call, whole.len()), wanted)? {
-            return Ok(false);
+        if !answers(alloc, "", input, failing_read(call, whole.len()), wanted) {
+            return false;
         }
     }
-    Ok(true)
+    true
 }
 
 // Whether an output with room for so many bytes has taken just these.
-fn room_ends(alloc: Global, input: &[u8], whole: &[u8], room: usize) -> Result<bool, OutOfMemory> {
+fn room_ends(alloc: Global, input: &[u8], whole: &[u8], room: usize) -> bool {
     let Some(front) = whole.get(..room) else {
-        return Ok(false);
+        return false;
     };
     let streams = Streams {
         room,
@@ -51,13 +51,13 @@ fn room_ends(alloc: Global, input: &[u8], whole: &[u8], room: usize) -> Result<b
 
 /// Whether an output that has too little room takes just as many bytes as it has room for, and
 /// writing fails.
-pub fn writes_fail(alloc: Global, input: &[u8], whole: &[u8]) -> Result<bool, OutOfMemory> {
+pub fn writes_fail(alloc: Global, input: &[u8], whole: &[u8]) -> bool {
     for room in &[0, 1, 30, 100] {
-        if !room_ends(alloc, input, whole, *room)? {
-            return Ok(false);
+        if !room_ends(alloc, input, whole, *room) {
+            return false;
         }
     }
-    Ok(true)
+    true
 }
 
 // The script after a comment line of so many bytes.
@@ -74,46 +74,38 @@ fn commented_answers(
     script: &[u8],
     bytes: usize,
     wanted: (u8, &[u8], &str),
-) -> Result<bool, OutOfMemory> {
-    let input = commented(alloc, script, bytes)?;
-    answers(alloc, "", &input, SOUND, wanted)
+) -> bool {
+    match commented(alloc, script, bytes) {
+        Ok(input) => answers(alloc, "", &input, SOUND, wanted),
+        Err(_) => false,
+    }
 }
 
 /// Whether an input of 4 MiB is answered, and one with a byte more isn't.
-pub fn limits_hold(alloc: Global, script: &[u8], whole: &[u8]) -> Result<bool, OutOfMemory> {
+pub fn limits_hold(alloc: Global, script: &[u8], whole: &[u8]) -> bool {
     let most = MOST_INPUT.saturating_sub(script.len()).saturating_sub(1);
     let long = (TOO_LONG, b"".as_slice(), "input too long\n");
-    Ok(
-        commented_answers(alloc, script, most, (DONE, whole, ""))?
-            && commented_answers(alloc, script, most.saturating_add(1), long)?,
-    )
+    commented_answers(alloc, script, most, (DONE, whole, ""))
+        && commented_answers(alloc, script, most.saturating_add(1), long)
 }
 
 // Words that name so many turns of task 0, and before them the most moments.
 fn words_of(alloc: Global, turns: usize) -> Result<String, OutOfMemory> {
-    let mut words = String::from_str(alloc, "1000 0")?;
-    for _ in 1..turns {
-        words.push_str(".0")?;
-    }
-    Ok(words)
+    let others = ".0".repeat(alloc, turns.saturating_sub(1))?;
+    format!(in alloc; "1000 0{others}")
 }
 
 // Whether a word of so many turns has this outcome.
-fn turns_answer(
-    alloc: Global,
-    input: &[u8],
-    turns: usize,
-    wanted: (u8, &[u8], &str),
-) -> Result<bool, OutOfMemory> {
-    let words = words_of(alloc, turns)?;
-    answers(alloc, words.as_str(), input, SOUND, wanted)
+fn turns_answer(alloc: Global, input: &[u8], turns: usize, wanted: (u8, &[u8], &str)) -> bool {
+    match words_of(alloc, turns) {
+        Ok(words) => answers(alloc, words.as_str(), input, SOUND, wanted),
+        Err(_) => false,
+    }
 }
 
 /// Whether a word may name 65,536 turns, and not one more.
-pub fn turns_hold(alloc: Global, input: &[u8]) -> Result<bool, OutOfMemory> {
+pub fn turns_hold(alloc: Global, input: &[u8]) -> bool {
     let none = b"imakern orders 1\norders 0 outcomes 0\nend\n".as_slice();
-    Ok(
-        turns_answer(alloc, input, 65_536, (DONE, none, ""))?
-            && turns_answer(alloc, input, 65_537, (USAGE, b"", FORMS))?,
-    )
+    turns_answer(alloc, input, 65_536, (DONE, none, ""))
+        && turns_answer(alloc, input, 65_537, (USAGE, b"", FORMS))
 }

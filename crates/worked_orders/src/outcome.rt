@@ -103,14 +103,17 @@ pub fn answer_over(
     Ok(did)
 }
 
-/// Whether the words have this outcome on this input, over such streams.
+/// Whether the words have this outcome on this input, over such streams. They have none if memory
+/// runs out.
 pub fn answers(
     alloc: Global,
     words: &str,
     input: &[u8],
     streams: Streams,
     wanted: (u8, &[u8], &str),
-) -> Result<bool, OutOfMemory> {
-    let did = answer_over(alloc, words, input, streams)?;
-    Ok(did.is(wanted.0, wanted.1, wanted.2))
+) -> bool {
+    match answer_over(alloc, words, input, streams) {
+        Ok(did) => did.is(wanted.0, wanted.1, wanted.2),
+        Err(_) => false,
+    }
 }

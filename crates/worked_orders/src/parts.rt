@@ -69,7 +69,8 @@ fn add<'a>(rows: &mut Vec<Row<'a>>, row: Row<'a>) -> Result<(), OutOfMemory> {
 
 // Adds the rows of some answers. Returns whether they have their form.
 fn add_all<'a>(rows: &mut Vec<Row<'a>>, answers: &'a str) -> Result<bool, OutOfMemory> {
-    for text in answers.split("\noutcome ").skip(1) {
+    let (_, texts) = cut(answers, "\noutcome ");
+    for text in texts.split("\noutcome ") {
         let Some(row) = Row::of(text) else {
             return Ok(false);
         };
@@ -113,10 +114,9 @@ fn have_same_rows(alloc: Global, some: &[u8], others: &[u8]) -> Result<bool, Out
 
 // Whether the answer has one end, with nothing after it.
 fn is_whole(answer: &[u8]) -> bool {
-    match str::from_utf8(answer) {
-        Ok(text) => text.ends_with("\nend\n") && text.split("\nend\n").count() == 2,
-        Err(_) => false,
-    }
+    let text = str::from_utf8(answer).unwrap_or("");
+    let (front, rest) = cut(text, "\nend\n");
+    front.len() < text.len() && rest.is_empty()
 }
 
 // Appends the answer for the orders that begin with these turns. Returns whether there is one.
