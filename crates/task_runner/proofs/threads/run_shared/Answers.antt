@@ -1,7 +1,7 @@
 -- The parts have run, and the world has been taken back.
 use Rattle.std.proofs.Common.{◌≡◌, ◌++◌, drop, length, refl, sym, take, ◌∙◌, subst}
 use Rattle.std.specs.Prelude.{All, List}
-use Rattle.std.proofs.lemmas.Result.{IfOk-weaker}
+use Rattle.std.proofs.lemmas.Result.{IfOk-weaker, err_from_is_err_and}
 use Rattle.task_core.specs.worlds.Tasks.{IsTask, Tasked}
 use Rattle.task_core.specs.worlds.World.{WorldValue}
 use Rattle.task_core.specs.worlds.WorldRuns.{SameRun}
@@ -9,6 +9,16 @@ use Rattle.task_runner.proofs.Going.{all_tasks, front_is, gone_named, gone_none,
 use Rattle.task_runner.proofs.Passing.{parts_named}
 use Rattle.task_runner.specs.Passes.{HaveRunInParts}
 use Rattle.task_runner.proofs.threads.run_shared.Goals as goal
+
+pub returns-in_err-live-clause-still : goal.returns-in_err-live-clause-still
+returns-in_err-live-clause-still g c =
+    let p = err_from_is_err_and c.from_residual.result c.from_residual.ensures.1 in
+    rw (p.1) tt
+
+pub returns-in_err-live-clause-parts : goal.returns-in_err-live-clause-parts
+returns-in_err-live-clause-parts g c =
+    let p = err_from_is_err_and c.from_residual.result c.from_residual.ensures.1 in
+    rw (p.1) tt
 
 pub returns-in_err-live-clause-tasks : goal.returns-in_err-live-clause-tasks
 returns-in_err-live-clause-tasks g c =
@@ -24,6 +34,16 @@ run_parts-requires-clause-tasks g c =
     (sym c.as_mut_slice.ensures.value)
     (all_tasks c.args.world.consts g.N.Name.consts c.args.tasks.now.items c.requires.consts
     c.requires.tasks)
+
+pub returns-in_err-run_parts-clause-still : goal.returns-in_err-run_parts-clause-still
+returns-in_err-run_parts-clause-still g c =
+    let p = err_from_is_err_and c.from_residual-in_err-run_parts.result c.from_residual-in_err-run_parts.ensures.1 in
+    rw (p.1) tt
+
+pub returns-in_err-run_parts-clause-parts : goal.returns-in_err-run_parts-clause-parts
+returns-in_err-run_parts-clause-parts g c =
+    let p = err_from_is_err_and c.from_residual-in_err-run_parts.result c.from_residual-in_err-run_parts.ensures.1 in
+    rw (p.1) tt
 
 pub returns-in_err-run_parts-clause-tasks : goal.returns-in_err-run_parts-clause-tasks
 returns-in_err-run_parts-clause-tasks g c =
