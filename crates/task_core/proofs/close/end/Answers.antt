@@ -2,6 +2,7 @@
 use Rattle.std.proofs.Common.{◌∙◌, List, length, refl, subst, ap, arith}
 use Rattle.std.specs.List.{list_any}
 use Rattle.std.proofs.lemmas.List.{length-map}
+use Rattle.std.proofs.lemmas.Result.{err_from_is_err_and}
 use Rattle.inode_events.specs.NewestFirst.{newest_first}
 use Rattle.inode_events.specs.Semaphores.{left}
 use Rattle.policy_cell.specs.declared.cell.RuleEntry.{RuleEntry}
@@ -45,6 +46,11 @@ close_lists-requires g c =
         ),
       ),
     )
+
+pub returns-in_err-lists : goal.returns-in_err-lists
+returns-in_err-lists g c =
+    let p = err_from_is_err_and c.from_residual.result c.from_residual.ensures.1 in
+    rw (p.1) tt
 
 pub returns : goal.returns
 returns g c =
