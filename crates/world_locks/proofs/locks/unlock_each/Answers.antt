@@ -1,8 +1,20 @@
 -- One more inode is taken out of its lock.
 use Rattle.std.proofs.Common.{ap, arith, length, length-append}
 use Rattle.std.proofs.lemmas.List.{length_push}
+use Rattle.std.proofs.lemmas.Result.{err_from_is_err_and}
 use Rattle.world_locks.proofs.Locking.{each_more}
 use Rattle.world_locks.proofs.locks.unlock_each.Goals as goal
+
+pub returns-in_err-world_inode : goal.returns-in_err-world_inode
+returns-in_err-world_inode g c =
+    let p = err_from_is_err_and c.from_residual.result c.from_residual.ensures.1 in
+    rw (p.1) tt
+
+pub returns-in_err-push : goal.returns-in_err-push
+returns-in_err-push g c =
+    let p = err_from_is_err_and c.from_residual-in_err-push.result
+    c.from_residual-in_err-push.ensures.1 in
+    rw (p.1) tt
 
 pub loop-mutex-preserved : goal.loop-mutex-preserved
 loop-mutex-preserved g c = record {
