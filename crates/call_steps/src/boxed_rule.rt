@@ -5,9 +5,15 @@ use std::alloc::{AllocError as OutOfMemory, Global};
 use std::marker::Model;
 
 /// A rule on the heap, so that calls which append none stay small. Contracts see the rule.
-#[derive(Drop)]
 pub struct BoxedRule {
     rule: Box<Rule>,
+}
+
+// Written out, so that the drop is proved here once, and not again in each crate above.
+impl Drop for BoxedRule {
+    fn drop(self) {
+        let BoxedRule { rule: _ } = self;
+    }
 }
 
 impl Model for BoxedRule {

@@ -16,12 +16,23 @@ use xattr_store::{After, Attrs, Bytes, EVM_NAME, NewValue};
 const FIVE: usize = 5;
 
 /// EVM under a script's settings. Contracts see its key, the added names and the format.
-#[derive(Debug, Drop)]
+#[derive(Debug)]
 pub struct Evm {
     key: Option<Bytes>,
     // The five fixed names, followed by the added ones.
     names: Vec<Bytes>,
     format: u8,
+}
+
+// Written out, so that the drop is proved here once, and not again in each crate above.
+impl Drop for Evm {
+    fn drop(self) {
+        let Evm {
+            key: _,
+            names: _,
+            format: _,
+        } = self;
+    }
 }
 
 impl Model for Evm {

@@ -15,12 +15,23 @@ use std::marker::Model;
 /// A list that only grows. Contracts see its name, its number of callers, its entries, for each
 /// entry the number of the pass that added it, and its room: the number of further entries it has
 /// memory for.
-#[derive(Drop)]
 pub struct Grow<E> {
     entries: Vec<E>,
     callers: u32,
     table: Table<(), SeatView<E>, u32, Growing, Global>,
     seat: Place<E>,
+}
+
+// Written out, so that the drop is proved here once, and not again in each crate above.
+impl<E: Drop> Drop for Grow<E> {
+    fn drop(self) {
+        let Grow {
+            entries: _,
+            callers: _,
+            table: _,
+            seat: _,
+        } = self;
+    }
 }
 
 impl<E> Model for Grow<E> {

@@ -6,9 +6,15 @@ use xattr_store::Bytes;
 
 /// Bytes in memory of their own, so that they don't enlarge the deeds and calls that have none.
 /// Contracts see the bytes.
-#[derive(Drop)]
 pub struct BoxedBytes {
     bytes: Box<Bytes>,
+}
+
+// Written out, so that the drop is proved here once, and not again in each crate above.
+impl Drop for BoxedBytes {
+    fn drop(self) {
+        let BoxedBytes { bytes: _ } = self;
+    }
 }
 
 impl Model for BoxedBytes {

@@ -6,9 +6,15 @@ use xattr_store::Bytes;
 
 /// The new value of an attribute, or `None` for its removal, in memory of its own, so that it
 /// doesn't enlarge the deeds and calls that have none. Contracts see the value.
-#[derive(Drop)]
 pub struct BoxedValue {
     value: Box<Option<Bytes>>,
+}
+
+// Written out, so that the drop is proved here once, and not again in each crate above.
+impl Drop for BoxedValue {
+    fn drop(self) {
+        let BoxedValue { value: _ } = self;
+    }
 }
 
 impl Model for BoxedValue {

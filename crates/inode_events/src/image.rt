@@ -24,9 +24,15 @@ pub struct Image {
 
 /// An image in memory of its own, so that it doesn't enlarge the events that have none. Contracts
 /// see the image.
-#[derive(Drop)]
 pub struct BoxedImage {
     image: Box<Image>,
+}
+
+// Written out, so that the drop is proved here once, and not again in each crate above.
+impl Drop for BoxedImage {
+    fn drop(self) {
+        let BoxedImage { image: _ } = self;
+    }
 }
 
 impl Model for BoxedImage {

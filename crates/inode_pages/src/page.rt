@@ -11,9 +11,15 @@ pub const PAGE_SIZE: usize = 4096;
 
 /// A page of a content, at most 4,096 bytes, as it was when it was handed out: no later write
 /// changes it. Contracts see the list of its bytes.
-#[derive(Drop)]
 pub struct Page {
     bytes: Arc<Vec<u8>, Global>,
+}
+
+// Written out, so that the drop is proved here once, and not again in each crate above.
+impl Drop for Page {
+    fn drop(self) {
+        let Page { bytes: _ } = self;
+    }
 }
 
 impl Model for Page {

@@ -23,13 +23,25 @@ use std::marker::Model;
 use xattr_store::Bytes;
 
 /// The journal of one inode, with the inode's state after its last event.
-#[derive(Drop)]
 pub struct InodeJournal {
     path: Bytes,
     settings: Settings,
     journal: Grow<Event>,
     own: Pass<Event>,
     state: State,
+}
+
+// Written out, so that the drop is proved here once, and not again in each crate above.
+impl Drop for InodeJournal {
+    fn drop(self) {
+        let InodeJournal {
+            path: _,
+            settings: _,
+            journal: _,
+            own: _,
+            state: _,
+        } = self;
+    }
 }
 
 impl Model for InodeJournal {

@@ -24,12 +24,23 @@ use std::marker::Model;
 /// its number of callers, its entries, for each entry the number of the pass that added it, and its
 /// room for further entries. Its registers always have the values that its entries give, each entry
 /// keeps the invariant of [`Entry`], and no two entries are the same.
-#[derive(Drop)]
 pub struct Book {
     list: Grow<Entry>,
     own: Pass<Entry>,
     banks: Banks,
     places: Places,
+}
+
+// Written out, so that the drop is proved here once, and not again in each crate above.
+impl Drop for Book {
+    fn drop(self) {
+        let Book {
+            list: _,
+            own: _,
+            banks: _,
+            places: _,
+        } = self;
+    }
 }
 
 impl Model for Book {

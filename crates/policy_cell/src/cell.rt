@@ -23,11 +23,21 @@ pub struct RuleEntry {
 /// The rules in force: the initial ones, followed by those that the callers have appended.
 /// Contracts see the initial rules, and the growing list of the appended ones. It has no length
 /// limit of its own.
-#[derive(Drop)]
 pub struct PolicyCell {
     index: Index,
     base: usize,
     appended: Grow<RuleEntry>,
+}
+
+// Written out, so that the drop is proved here once, and not again in each crate above.
+impl Drop for PolicyCell {
+    fn drop(self) {
+        let PolicyCell {
+            index: _,
+            base: _,
+            appended: _,
+        } = self;
+    }
 }
 
 impl Model for PolicyCell {

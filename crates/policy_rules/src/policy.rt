@@ -9,9 +9,16 @@ use std::marker::Model;
 pub const RULES: usize = 1024;
 
 /// A policy: at most 1,024 rules, in order. Contracts see the list of its rules.
-#[derive(Debug, Drop)]
+#[derive(Debug)]
 pub struct Policy {
     rules: Vec<Rule>,
+}
+
+// Written out, so that the drop is proved here once, and not again in each crate above.
+impl Drop for Policy {
+    fn drop(self) {
+        let Policy { rules: _ } = self;
+    }
 }
 
 impl Model for Policy {
@@ -59,7 +66,8 @@ impl Policy {
         ensures rules { result.items ≡ self }
         ensures limit { length self ≤ most_rules }
     {
-        self.rules
+        let Policy { rules } = self;
+        rules
     }
 
     /// A copy with equal rules, in its own memory.

@@ -20,10 +20,16 @@ use std::marker::Model;
 /// Rules are grouped by their `func=` and, within that, by their `fsmagic=`. The index keeps the
 /// lines of each group, so that a decision visits the rules of at most four groups in the order of
 /// their lines, and stops at the line by which all four families are decided.
-#[derive(Drop)]
 pub struct Index {
     rules: Vec<Rule>,
     lines: HashMap<Group, Vec<usize>>,
+}
+
+// Written out, so that the drop is proved here once, and not again in each crate above.
+impl Drop for Index {
+    fn drop(self) {
+        let Index { rules: _, lines: _ } = self;
+    }
 }
 
 impl Model for Index {

@@ -19,9 +19,15 @@ pub struct FileBlock {
 }
 
 /// The calls of a task, in order. Contracts see the list.
-#[derive(Drop)]
 pub struct Calls {
     calls: Vec<Call>,
+}
+
+// Written out, so that the drop is proved here once, and not again in each crate above.
+impl Drop for Calls {
+    fn drop(self) {
+        let Calls { calls: _ } = self;
+    }
 }
 
 impl Model for Calls {
@@ -45,7 +51,8 @@ impl Calls {
     pub fn into_vec(self) -> Vec<Call>
         ensures { result.items ≡ self }
     {
-        self.calls
+        let Calls { calls } = self;
+        calls
     }
 
     /// The calls with one more at the end.

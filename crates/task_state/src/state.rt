@@ -26,7 +26,6 @@ use std::marker::Model;
 
 /// A task's state. Contracts see its program, its position and replies, the action of
 /// its last check, and the number of further steps for which it has room.
-#[derive(Drop)]
 pub struct TaskState {
     cred: Cred,
     calls: Vec<Call>,
@@ -35,6 +34,21 @@ pub struct TaskState {
     handles: Vec<Handle>,
     replies: Vec<Reply>,
     checked: Action,
+}
+
+// Written out, so that the drop is proved here once, and not again in each crate above.
+impl Drop for TaskState {
+    fn drop(self) {
+        let TaskState {
+            cred: _,
+            calls: _,
+            at: _,
+            progress: _,
+            handles: _,
+            replies: _,
+            checked: _,
+        } = self;
+    }
 }
 
 impl Model for TaskState {
@@ -308,10 +322,16 @@ impl TaskState {
         ensures replies { result.replies ≡ self.position.replies }
     {
         let done = self.is_done();
-        EndedTask {
-            done,
-            replies: self.replies,
-        }
+        let TaskState {
+            cred: _,
+            calls: _,
+            at: _,
+            progress: _,
+            handles: _,
+            replies,
+            checked: _,
+        } = self;
+        EndedTask { done, replies }
     }
 }
 

@@ -20,7 +20,6 @@ use world_close::worlds::WorldInode;
 
 /// The lists of a world, with a lock for each inode, and one lock each for the measurement list,
 /// the semaphores and the rules. They belong to the constants that `N` names.
-#[derive(Drop)]
 pub struct Locks<N: Name> {
     pub(crate) world_inodes: Vec<Mutex<TaggedWorldInode<N>>>,
     book: Mutex<TaggedBook<N>>,
@@ -34,6 +33,22 @@ pub struct Locks<N: Name> {
     ghost supers_are: { supers.items ≡ N.consts.supers },
     ghost settings_are: { settings ≡ N.consts.settings },
     ghost tasks_are: { tasks ≡ N.consts.tasks },
+}
+
+// Written out, so that the drop is proved here once, and not again in each crate above.
+impl<N: Name> Drop for Locks<N> {
+    fn drop(self) {
+        let Locks {
+            world_inodes: _,
+            book: _,
+            sems: _,
+            rules: _,
+            supers: _,
+            settings: _,
+            tasks: _,
+            alloc: _,
+        } = self;
+    }
 }
 
 // Takes each inode out, and puts it under a lock.

@@ -18,10 +18,16 @@ use task_steps::StepResult;
 use world_close::semaphores::SemaphoreCell;
 
 /// The measurement list, with the invariant that it belongs to the constants that `N` names.
-#[derive(Drop)]
 pub struct TaggedBook<N: Name> {
     pub(crate) book: Book,
     pub(crate) of: PhantomData<N>,
+}
+
+// Written out, so that the drop is proved here once, and not again in each crate above.
+impl<N: Name> Drop for TaggedBook<N> {
+    fn drop(self) {
+        let TaggedBook { book: _, of: _ } = self;
+    }
 }
 
 impl<N: Name> Model for TaggedBook<N> {
@@ -59,10 +65,16 @@ impl<N: Name> TaggedBook<N> {
 }
 
 /// The semaphores, with the invariant that they belong to the constants that `N` names.
-#[derive(Drop)]
 pub struct TaggedSemaphores<N: Name> {
     sems: SemaphoreCell,
     of: PhantomData<N>,
+}
+
+// Written out, so that the drop is proved here once, and not again in each crate above.
+impl<N: Name> Drop for TaggedSemaphores<N> {
+    fn drop(self) {
+        let TaggedSemaphores { sems: _, of: _ } = self;
+    }
 }
 
 impl<N: Name> Model for TaggedSemaphores<N> {
@@ -130,11 +142,21 @@ fn signalled(place: Option<u64>) -> Option<StepResult>
 
 /// The rules and their spare passes, with the invariant that they belong to the constants that `N`
 /// names.
-#[derive(Drop)]
 pub struct TaggedRules<N: Name> {
     pub(crate) rules: PolicyCell,
     spares: Vec<Pass<RuleEntry>>,
     of: PhantomData<N>,
+}
+
+// Written out, so that the drop is proved here once, and not again in each crate above.
+impl<N: Name> Drop for TaggedRules<N> {
+    fn drop(self) {
+        let TaggedRules {
+            rules: _,
+            spares: _,
+            of: _,
+        } = self;
+    }
 }
 
 impl<N: Name> Model for TaggedRules<N> {

@@ -28,11 +28,21 @@ use task_steps::{Actor, Checks, StepResult, apply_alone_at, apply_at, check_at};
 use world_close::worlds::{HashState, WorldInode};
 
 /// An inode with its number, and the invariant that it belongs to the constants that `N` names.
-#[derive(Drop)]
 pub struct TaggedWorldInode<N: Name> {
     number: u32,
     world_inode: WorldInode,
     of: PhantomData<N>,
+}
+
+// Written out, so that the drop is proved here once, and not again in each crate above.
+impl<N: Name> Drop for TaggedWorldInode<N> {
+    fn drop(self) {
+        let TaggedWorldInode {
+            number: _,
+            world_inode: _,
+            of: _,
+        } = self;
+    }
 }
 
 impl<N: Name> Model for TaggedWorldInode<N> {

@@ -5,9 +5,16 @@ use std::marker::Model;
 
 /// A byte string that owns its memory: a path, a name or the value of an attribute. Contracts see
 /// its list of bytes.
-#[derive(Debug, Drop)]
+#[derive(Debug)]
 pub struct Bytes {
     bytes: Vec<u8>,
+}
+
+// Written out, so that the drop is proved here once, and not again in each crate above.
+impl Drop for Bytes {
+    fn drop(self) {
+        let Bytes { bytes: _ } = self;
+    }
 }
 
 impl Model for Bytes {
@@ -37,7 +44,8 @@ impl Bytes {
     pub fn into_vec(self) -> Vec<u8>
         ensures bytes { result.items ≡ self }
     {
-        self.bytes
+        let Bytes { bytes } = self;
+        bytes
     }
 
     /// The bytes, borrowed.
