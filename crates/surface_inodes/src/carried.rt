@@ -1,7 +1,7 @@
 // A measurement list that goes from one boot into the next.
 
 ghost use Rattle.std.specs.Prelude.{◌-◌, ◌<◌, ◌≤◌, ◌^◌, length};
-ghost use Rattle.ima_top.specs.carrying.Form.{IsCarried};
+ghost use Rattle.list_carry.specs.Form.{IsCarried};
 
 use crate::lists::EntryPass;
 use script_text::LineCause;

@@ -1,7 +1,7 @@
 // Events of inodes, and the answers of the calls that add them.
 
 ghost use Rattle.std.specs.Prelude.{IsTrue};
-ghost use Rattle.ima_top.specs.policy.rules.RuleValue.{is_named_template};
+ghost use Rattle.policy_text.specs.rules.RuleValue.{is_named_template};
 
 // ---- inode_events
 

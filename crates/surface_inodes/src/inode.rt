@@ -4,16 +4,16 @@
 // pass it is lent".
 
 ghost use Rattle.std.specs.Prelude.{◌≡◌, ◌+◌, ◌-◌, ◌<◌, ◌≤◌, ◌^◌, [], Some, false, true, length};
-ghost use Rattle.ima_top.specs.events.Checks.{last_check, slot_of};
-ghost use Rattle.ima_top.specs.events.Files.{can_read, held, holds, is_writer};
-ghost use Rattle.ima_top.specs.events.NewestFirst.{newest_first};
-ghost use Rattle.ima_top.specs.events.Stage.{Asked, CloseCollected, CloseCollecting, Collected, Collecting, Settled, may_check, stage};
-ghost use Rattle.ima_top.specs.events.meta.declared.measurement.Template.TheVariants.{Ima};
-ghost use Rattle.ima_top.specs.events.pages.Content.{most_bytes};
-ghost use Rattle.ima_top.specs.events.templates.Path.{IsMeasuredPath};
-ghost use Rattle.ima_top.specs.worlds.inodes.Ending.{HasPasses};
-ghost use Rattle.ima_top.specs.worlds.inodes.Sums.{HasSums};
-ghost use Rattle.ima_top.specs.worlds.laws_of_journals.Own.{counter};
+ghost use Rattle.inode_events.specs.Checks.{last_check, slot_of};
+ghost use Rattle.inode_events.specs.Files.{can_read, held, holds, is_writer};
+ghost use Rattle.inode_events.specs.NewestFirst.{newest_first};
+ghost use Rattle.inode_events.specs.Stage.{Asked, CloseCollected, CloseCollecting, Collected, Collecting, Settled, may_check, stage};
+ghost use Rattle.inode_events.specs.meta.declared.measurement.Template.TheVariants.{Ima};
+ghost use Rattle.inode_events.specs.pages.Content.{most_bytes};
+ghost use Rattle.inode_events.specs.templates.Path.{IsMeasuredPath};
+ghost use Rattle.inode_cell.specs.Ending.{HasPasses};
+ghost use Rattle.inode_cell.specs.Sums.{HasSums};
+ghost use Rattle.inode_cell.specs.laws_of_journals.Own.{counter};
 
 use std::alloc::Global;
 

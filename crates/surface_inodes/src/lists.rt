@@ -1,12 +1,12 @@
 // Lists that callers share, registers, entries and their forms, and the measurement list.
 
 ghost use Rattle.std.specs.Prelude.{◌≡◌, ◌≢◌, ◌<◌, ◌≤◌, length};
-ghost use Rattle.ima_top.specs.events.hashes.declared.algo.Algo.TheVariants.{Sha1};
-ghost use Rattle.ima_top.specs.events.meta.declared.measurement.Template.TheVariants.{ImaBuf};
-ghost use Rattle.ima_top.specs.events.templates.Path.{IsMeasuredPath};
-ghost use Rattle.ima_top.specs.events.templates.xattrs.Attrs.{most_value};
-ghost use Rattle.ima_top.specs.worlds.model.growing.Others.{HasOthers};
-ghost use Rattle.ima_top.specs.worlds.model.growing.Shown.{HasEach};
+ghost use Rattle.inode_events.specs.hashes.declared.algo.Algo.TheVariants.{Sha1};
+ghost use Rattle.inode_events.specs.meta.declared.measurement.Template.TheVariants.{ImaBuf};
+ghost use Rattle.inode_events.specs.templates.Path.{IsMeasuredPath};
+ghost use Rattle.inode_events.specs.templates.xattrs.Attrs.{most_value};
+ghost use Rattle.grow_list.specs.Others.{HasOthers};
+ghost use Rattle.grow_list.specs.Shown.{HasEach};
 
 use std::alloc::Global;
 

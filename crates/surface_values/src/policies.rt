@@ -1,8 +1,8 @@
 // Rules, their texts, and which of them decide; and the rules that tasks append.
 
 ghost use Rattle.std.specs.Prelude.{◌≡◌, ◌-◌, ◌<◌, ◌≤◌, ◌^◌, length};
-ghost use Rattle.ima_top.specs.worlds.model.growing.Shown.{HasEach};
-ghost use Rattle.ima_top.specs.policy.rules.Limits.{most_rules};
+ghost use Rattle.grow_list.specs.Shown.{HasEach};
+ghost use Rattle.policy_text.specs.rules.Limits.{most_rules};
 
 use std::alloc::Global;
 
