@@ -13,11 +13,6 @@ pub fn is_same(rt: &impl Abort, got: &[u8], want: &[u8], case: &str) {
     holds(rt, got == want, case);
 }
 
-/// Ends the test with the name of the case if this number isn't the expected one.
-pub fn is_number(rt: &impl Abort, got: u64, want: u64, case: &str) {
-    assert!(rt; got == want, "{case}: {got}");
-}
-
 /// Ends the test with the name of the case if these bytes don't have these hexadecimal digits.
 pub fn is_hex(
     rt: &impl Abort,

@@ -1,11 +1,9 @@
 // Digests of 5,000 bytes `a` that other programs computed (`md5sum`, `sha1sum`, `sha256sum`).
 
 use crate::checks::is_same;
-use crate::pages::letters;
 use hash_algos::{Algo, Digest};
-use inode_hashing::{Hashing, digest_of_content};
-use inode_pages::{Content, PageErr};
-use std::alloc::{AllocError as OutOfMemory, Global};
+use inode_hashing::Hashing;
+use std::alloc::AllocError as OutOfMemory;
 use std::process::Abort;
 
 const MD5: &[u8] = b"\x7a\xaa\x7d\xec\x70\x9f\xa4\xfa\x82\xf3\x74\x6a\xbf\xd8\x0b\xdb";
@@ -39,29 +37,6 @@ fn agree(rt: &impl Abort, bytes: &[u8], cut: usize) {
     }
 }
 
-// Feeds the content's two pages.
-fn feed_pages(alloc: Global, content: &Content, hashing: &mut Hashing) -> Result<(), OutOfMemory> {
-    for number in 0..2 {
-        let page = content.page(alloc, number)?;
-        hashing.next_page(&page);
-    }
-    Ok(())
-}
-
-// Compares the digests of the content, by its pages and whole.
-fn content_agrees(rt: &impl Abort, alloc: Global, content: &Content) -> Result<(), PageErr> {
-    let mut hashing = Hashing::begin(Algo::Md5);
-    feed_pages(alloc, content, &mut hashing)?;
-    are_those(rt, &hashing.finish(), MD5, "by pages");
-    is_same(
-        rt,
-        digest_of_content(Algo::Sha256, content).as_slice(),
-        SHA256,
-        "whole",
-    );
-    Ok(())
-}
-
 #[test]
 fn both_digests_are_those_of_other_programs(rt: HostRuntime) -> Result<(), OutOfMemory> {
     let bytes = vec![in rt.alloc(); b'a'; 5000]?;
@@ -69,10 +44,4 @@ fn both_digests_are_those_of_other_programs(rt: HostRuntime) -> Result<(), OutOf
     agree(&rt, &bytes, 1);
     agree(&rt, &bytes, 4096);
     Ok(())
-}
-
-#[test]
-fn pages_are_hashed_as_their_bytes(rt: HostRuntime) -> Result<(), PageErr> {
-    let content = letters(rt.alloc(), 5000)?;
-    content_agrees(&rt, rt.alloc(), &content)
 }

@@ -1,12 +1,10 @@
-//! Tests of the parts: vectors of digests and HMACs, pages, registers and streams; the lists that
-//! callers share, and the measurement list; and what no case of `worked_runs` holds or shows of
-//! records, labels, comments and deciding rules.
+//! Tests of the parts: vectors of digests, HMACs and registers, and streams; what no case of
+//! `worked_runs` holds or shows of records, labels, comments and deciding rules; and that what a
+//! caller pushed on a shared list stays there.
 //!
 //! The tests are in a crate of their own because a crate with tests is proved twice.
 #![tactic(auto)]
 
-#[cfg(test)]
-mod books;
 #[cfg(test)]
 mod checks;
 #[cfg(test)]
@@ -25,8 +23,6 @@ mod lists;
 mod macs;
 #[cfg(test)]
 mod matching;
-#[cfg(test)]
-mod pages;
 #[cfg(test)]
 mod policies;
 #[cfg(test)]
