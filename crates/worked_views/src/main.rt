@@ -11,9 +11,8 @@
 mod cuts;
 mod outcome;
 
-use crate::outcome::{Outcome, answer};
+use crate::outcome::answer;
 use anyhow::{Context, Result, ensure};
-use std::alloc::Global;
 use std::fs;
 use view_top::{NO_PLACE, REFUSED, USAGE};
 
@@ -95,40 +94,56 @@ fn main(rt: HostRuntime) -> Result<()> {
 fn pages_hold(rt: &HostRuntime) -> Result<bool> {
     let mut all = true;
     for name in REPORTS {
-        let text = report(rt, name)?;
-        let page = format!(in rt.alloc(); "{name}.html")?;
-        all = page_holds(rt, rt.alloc(), "page", &text, page.as_str())? && all;
+        all = page_of_report_holds(rt, name)? && all;
     }
     Ok(all)
+}
+
+fn page_of_report_holds(rt: &HostRuntime, name: &str) -> Result<bool> {
+    let text = report(rt, name)?;
+    let page = format!(in rt.alloc(); "{name}.html")?;
+    page_holds(rt, "page", &text, page.as_str())
 }
 
 fn cut_reports_are_refused(rt: &HostRuntime) -> Result<bool> {
     let mut all = true;
     for name in REPORTS {
-        let text = report(rt, name)?;
-        let refused = cuts::are_refused(rt.alloc(), &text)?;
-        all = row(rt, name, "is refused if it is cut", refused)? && all;
+        all = cut_report_is_refused(rt, name)? && all;
     }
     Ok(all)
 }
 
+fn cut_report_is_refused(rt: &HostRuntime, name: &str) -> Result<bool> {
+    let text = report(rt, name)?;
+    let refused = cuts::are_refused(rt.alloc(), &text)?;
+    row(rt, name, "is refused if it is cut", refused)
+}
+
 fn others_hold(rt: &HostRuntime) -> Result<bool> {
     let mut all = true;
-    for (words, names, page) in OTHERS {
-        let text = reports(rt, names)?;
-        all = page_holds(rt, rt.alloc(), words, &text, page)? && all;
+    for other in OTHERS {
+        all = other_holds(rt, other)? && all;
     }
     Ok(all)
+}
+
+fn other_holds(rt: &HostRuntime, other: (&str, &[&str], &str)) -> Result<bool> {
+    let text = reports(rt, other.1)?;
+    page_holds(rt, other.0, &text, other.2)
 }
 
 fn refusals_hold(rt: &HostRuntime) -> Result<bool> {
     let mut all = true;
     let text = report(rt, "race")?;
-    for (words, status, note) in REFUSALS {
-        let got = answer(rt.alloc(), words, &text)?;
-        all = row(rt, "refused", words, got.is(status, b"", note))? && all;
+    for refusal in REFUSALS {
+        all = refusal_holds(rt, &text, refusal)? && all;
     }
     Ok(all)
+}
+
+fn refusal_holds(rt: &HostRuntime, text: &[u8], refusal: (&str, u8, &str)) -> Result<bool> {
+    let got = answer(rt.alloc(), refusal.0, text)?;
+    row(rt, "refused", refusal.0, got.is(refusal.1, b"", refusal.2))
 }
 
 // The texts of the reports of these names, one after another.
@@ -148,15 +163,9 @@ fn report(rt: &HostRuntime, name: &str) -> Result<Vec<u8>> {
 }
 
 // Compares the page with the stored one, and prints a line.
-fn page_holds(
-    rt: &HostRuntime,
-    alloc: Global,
-    words: &str,
-    text: &[u8],
-    page: &str,
-) -> Result<bool> {
+fn page_holds(rt: &HostRuntime, words: &str, text: &[u8], page: &str) -> Result<bool> {
     let stored = fs::read(rt, page).context(page)?;
-    let got = answer(alloc, words, text)?;
+    let got = answer(rt.alloc(), words, text)?;
     row(rt, words, page, got.is(0, &stored, ""))
 }
 

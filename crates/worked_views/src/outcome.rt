@@ -7,33 +7,48 @@ use view_top::serve_view;
 /// What a call did: its exit status, its output and its note.
 #[derive(Drop)]
 pub struct Outcome {
-    pub status: u8,
-    pub out: Vec<u8>,
-    pub note: Vec<u8>,
+    status: u8,
+    out: MemSink,
+    note: MemSink,
 }
 
 impl Outcome {
     /// Whether the outcome has this status, this output and this note.
     pub fn is(&self, status: u8, out: &[u8], note: &str) -> bool {
-        self.status == status
-            && self.out.as_slice() == out
-            && self.note.as_slice() == note.as_bytes()
+        self.status == status && self.out.taken() == out && self.note.taken() == note.as_bytes()
     }
+}
+
+// A source of this input, no call of which fails.
+fn source(alloc: Global, input: &[u8]) -> Result<MemSource, OutOfMemory> {
+    Ok(MemSource::new(input.to_vec(alloc)?, 4096, Vec::new(alloc)))
+}
+
+// The outcome before anything was done.
+fn nothing(alloc: Global) -> Result<Outcome, OutOfMemory> {
+    let out = MemSink::new(alloc, 2_000_000, 4096, Vec::new(alloc))?;
+    let note = MemSink::new(alloc, 200, 200, Vec::new(alloc))?;
+    Ok(Outcome {
+        status: 0,
+        out,
+        note,
+    })
+}
+
+// The words, which spaces separate.
+fn words_of(alloc: Global, words: &str) -> Result<Vec<String>, OutOfMemory> {
+    let mut list = Vec::new(alloc);
+    for word in words.split_whitespace() {
+        list.push(String::from_str(alloc, word)?)?;
+    }
+    Ok(list)
 }
 
 /// The outcome of the words, which spaces separate, on this input, if no stream fails.
 pub fn answer(alloc: Global, words: &str, input: &[u8]) -> Result<Outcome, OutOfMemory> {
-    let mut list = Vec::new(alloc);
-    for word in words.split(' ').filter(|word| !word.is_empty()) {
-        list.push(String::from_str(alloc, word)?)?;
-    }
-    let mut report = MemSource::new(input.to_vec(alloc)?, 4096, Vec::new(alloc));
-    let mut out = MemSink::new(alloc, 2_000_000, 4096, Vec::new(alloc))?;
-    let mut note = MemSink::new(alloc, 200, 200, Vec::new(alloc))?;
-    let status = serve_view(alloc, &list, &mut report, &mut out, &mut note);
-    Ok(Outcome {
-        status,
-        out: out.taken().to_vec(alloc)?,
-        note: note.taken().to_vec(alloc)?,
-    })
+    let words = words_of(alloc, words)?;
+    let mut report = source(alloc, input)?;
+    let mut did = nothing(alloc)?;
+    did.status = serve_view(alloc, &words, &mut report, &mut did.out, &mut did.note);
+    Ok(did)
 }
