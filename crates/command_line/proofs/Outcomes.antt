@@ -1,6 +1,6 @@
 -- The parser takes just those lists of words without options that are a command.
 use Rattle.std.proofs.Common.{◌≡◌, ◌||◌, Bool, true, false, List, [], ◌∷◌, Option, Some, None, refl, sym, ap, ◌∙◌}
-use Rattle.std.specs.Prelude.{codes, find, is_some, option_map}
+use Rattle.std.specs.Prelude.{codes, find, is_some, map, option_map}
 use Rattle.std.specs.List.{fold, list_any}
 use Rattle.std.specs.Str.{bytes_eq}
 use Rattle.std.proofs.lemmas.Slice.Eq.{bytes_eq-Decides}
@@ -324,21 +324,16 @@ pub record IsOther (word : Text) : Type 0 where
 not_it : (word name : Text) → bytes_eq word name ≡ false → answers_to word (name, []) ≡ false
 not_it word name h = ap (λ (b : Bool). b || false) (unequal word name h)
 
--- the names of the subcommands: those of the table, and `gen`
-abbrev subcommands : List (Text × Command) → List (Text × List Text)
-subcommands [] = (codes "gen", []) ∷ []
-subcommands (e ∷ es) = (e.0, []) ∷ subcommands es
-
--- a word that isn't in the table and isn't `gen` selects none of them
+-- a word that isn't in the table selects none of the table's subcommands
 none_found : (word : Text) (es : List (Text × Command)) → IsNone word es
-    → bytes_eq word (codes "gen") ≡ false
-    → option_map (λ s. s.0) (find (answers_to word) (subcommands es)) ≡ None
-none_found word [] o gen = rw (not_it word (codes "gen") gen) refl
-none_found word (e ∷ es) o gen = rw (not_it word e.0 o.0) (none_found word es o.1 gen)
+    → option_map (λ s. s.0) (find (answers_to word) (map (λ e. (e.0, [])) es)) ≡ None
+none_found word [] o = refl
+none_found word (e ∷ es) o = rw (not_it word e.0 o.0) (none_found word es o.1)
 
 -- a word that names no command selects no subcommand
 no_subcommand : (word : Text) → IsOther word → subcommand_met (names_of whole) idle word ≡ None
-no_subcommand word o = none_found word lone_commands o.lone o.gen
+no_subcommand word o =
+    rw (not_it word (codes "gen") o.gen) (none_found word lone_commands o.lone)
 
 -- a word that isn't in the table has no entry there
 no_entry : (word : Text) (es : List (Text × Command)) → IsNone word es → look_up es word ≡ None

@@ -1,7 +1,8 @@
 -- The program as `clap` is given it: one subcommand for each command.
-use Rattle.std.specs.Prelude.{ℕ, List, [], ◌∷◌, true, codes}
+use Rattle.std.specs.Prelude.{ℕ, List, [], ◌∷◌, Option, true, codes, map, option_and_then}
 use Rattle.clap.specs.Simple.{App, Shape, new_app, new_rule, new_shape, on_top, with_rule, with_subcommand}
-use Rattle.command_line.specs.Words.{lone_commands}
+use Rattle.clap.specs.Walk.{Row, Text, first_of}
+use Rattle.command_line.specs.Words.{command_by, lone_commands}
 use Rattle.command_line.specs.declared.command.Command.{Command}
 
 -- the program without its subcommands: it has no options, help or version, and needs a subcommand
@@ -20,9 +21,14 @@ numbered name =
     (with_rule (new_app name) (record (new_rule (codes "number")) { required = true })).top
 
 -- the program with a subcommand for each of these words
-abbrev pub with_lone : App → List (List ℕ × Command) → App
-with_lone a [] = a
-with_lone a (e ∷ es) = with_lone (with_subcommand a (new_shape e.0)) es
+abbrev pub with_words : App → List (List ℕ) → App
+with_words a [] = a
+with_words a (word ∷ words) = with_words (with_subcommand a (new_shape word)) words
 
 abbrev pub program : App
-program = with_subcommand (with_lone bare lone_commands) (numbered (codes "gen"))
+program =
+    with_words (with_subcommand bare (numbered (codes "gen"))) (map (λ e. e.0) lone_commands)
+
+-- the command of the subcommand that the parser met, with the rows of its arguments
+abbrev pub command_met : Option (Text × List Row) → Option Command
+command_met = option_and_then (λ met. command_by met.0 (first_of (codes "number") met.1))

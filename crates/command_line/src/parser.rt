@@ -1,14 +1,20 @@
 // The parser: a program with one subcommand for each command, and no options, help or version.
 ghost use Rattle.std.specs.Prelude.{◌≡◌, map, string_bytes, IfOk};
 ghost use Rattle.std.specs.List.{list_any};
-ghost use Rattle.clap.specs.Words.{app_of};
-ghost use Rattle.clap.specs.Simple.{new_shape, with_subcommand};
+ghost use Rattle.clap.specs.Words.{app_of, subcommand_rows_of};
+ghost use Rattle.clap.specs.Simple.{shape_of};
 ghost use Rattle.command_line.specs.Words.{command_of, is_option};
-ghost use Rattle.command_line.specs.Program.{bare, numbered, program};
+ghost use Rattle.command_line.specs.Program.{bare, command_met, numbered, program, with_words};
 
 use crate::command::Command;
+use clap::ArgMatches;
 use clap::error::ErrorKind;
 use std::alloc::{AllocError as OutOfMemory, Global};
+
+// The words of the commands that are one word alone.
+const LONE_COMMANDS: [&str; 8] = [
+    "list", "policy", "label", "run", "buffers", "carry", "audit", "loads",
+];
 
 /// The command that the words name, if any. The words don't include the program's name.
 ///
@@ -20,16 +26,22 @@ pub fn command_of(alloc: Global, words: &[String]) -> Result<Option<Command>, Ou
     if has_option(words) {
         return Ok(None);
     }
-    let program = program(alloc)?;
-    match program.try_get_matches_from(words) {
-        Ok(matches) => match matches.subcommand() {
-            Some((name, rest)) => Ok(Command::by(name, rest.get_str("number"))),
-            None => Ok(None),
-        },
+    match program(alloc)?.try_get_matches_from(words) {
+        Ok(matches) => Ok(command_met(&matches)),
         Err(error) => match error.kind() {
             ErrorKind::OutOfMemory => Err(OutOfMemory),
             _ => Ok(None),
         },
+    }
+}
+
+// The command of the subcommand that the parser met.
+fn command_met(matches: &ArgMatches) -> Option<Command>
+    ensures { result ≡ command_met (subcommand_rows_of matches.now) }
+{
+    match matches.subcommand() {
+        Some((name, rest)) => Command::by(name, rest.get_str("number")),
+        None => None,
     }
 }
 
@@ -51,16 +63,9 @@ fn is_option(word: &str) -> bool
 fn program<'a>(alloc: Global) -> Result<clap::Command<'a>, OutOfMemory>
     ensures { IfOk result (λ p. app_of p ≡ program) }
 {
-    let program = bare(alloc);
-    let program = with_command(alloc, program, "list")?;
-    let program = with_command(alloc, program, "policy")?;
-    let program = with_command(alloc, program, "label")?;
-    let program = with_command(alloc, program, "run")?;
-    let program = with_command(alloc, program, "buffers")?;
-    let program = with_command(alloc, program, "carry")?;
-    let program = with_command(alloc, program, "audit")?;
-    let program = with_command(alloc, program, "loads")?;
-    with_numbered(alloc, program, "gen")
+    let numbered = numbered(alloc, "gen")?;
+    let program = bare(alloc).subcommand(numbered)?;
+    with_commands(alloc, program, &LONE_COMMANDS)
 }
 
 fn bare<'a>(alloc: Global) -> clap::Command<'a>
@@ -74,28 +79,26 @@ fn bare<'a>(alloc: Global) -> clap::Command<'a>
         .subcommand_required(true)
 }
 
-fn with_command<'a>(
+// Adds a subcommand for each of the words.
+fn with_commands<'a>(
     alloc: Global,
     program: clap::Command<'a>,
-    name: &'a str,
+    names: &[&'a str],
 ) -> Result<clap::Command<'a>, OutOfMemory>
     ensures { IfOk result (λ p. app_of p
-        ≡ with_subcommand (app_of program.entry) (new_shape name.entry.now)) }
+        ≡ with_words (app_of program.entry) (map (λ name. name.now) names.now)) }
 {
-    let command = clap::Command::new(alloc, name);
-    program.subcommand(command)
+    let mut program = program;
+    for &name in names {
+        program = program.subcommand(clap::Command::new(alloc, name))?;
+    }
+    Ok(program)
 }
 
-// Adds a subcommand that takes one number.
-fn with_numbered<'a>(
-    alloc: Global,
-    program: clap::Command<'a>,
-    name: &'a str,
-) -> Result<clap::Command<'a>, OutOfMemory>
-    ensures { IfOk result (λ p. app_of p
-        ≡ with_subcommand (app_of program.entry) (numbered name.entry.now)) }
+// A command that takes one number.
+fn numbered<'a>(alloc: Global, name: &'a str) -> Result<clap::Command<'a>, OutOfMemory>
+    ensures { IfOk result (λ command. shape_of command ≡ numbered name.entry.now) }
 {
     let number = clap::Arg::new(alloc, "number").required(true);
-    let command = clap::Command::new(alloc, name).arg(number)?;
-    program.subcommand(command)
+    clap::Command::new(alloc, name).arg(number)
 }

@@ -1,25 +1,25 @@
--- The program after each step is the one before it with a subcommand more.
-use Rattle.std.proofs.Common.{◌≡◌, List, ℕ, IfOk, ap, ◌∙◌, subst}
+use Rattle.std.proofs.Common.{◌≡◌, ◌&&◌, Bool, true, false, not, map, IfOk, refl, ap, ◌∙◌, subst}
 use Rattle.std.specs.Prelude.{codes}
-use Rattle.clap.specs.Simple.{App, new_shape, with_subcommand}
-use Rattle.clap.specs.Words.{app_of}
-use Rattle.command_line.specs.Program.{bare, numbered, with_lone}
+use Rattle.clap.specs.Simple.{App, Shape, app_of, with_subcommand}
+use Rattle.command_line.specs.Program.{bare, numbered, with_words}
 use Rattle.command_line.specs.Words.{lone_commands}
 use Rattle.command_line.proofs.parser.program.Goals as goal
 
+third_is_false : (a b c d : Bool) → (a && (b && (not c && d))) ≡ true → c ≡ false
+third_is_false true true false d h = refl
+third_is_false true true true d h = absurd (cc)
+third_is_false true false c d h = absurd (cc)
+third_is_false false b c d h = absurd (cc)
+
+-- the numbered command is plain, so it has no global argument
 pub returns : goal.returns
 returns c =
-    let more : List ℕ → App → App = λ name a. with_subcommand a (new_shape name) in
-    let four : app_of c.in_ok-program-4.program
-    ≡ more (codes "run") (more (codes "label") (more (codes "policy") (more (codes "list") bare))) =
-    c.in_ok-program-4.ensures ∙ ap (more (codes "run"))
-    (c.in_ok-program-3.ensures ∙ ap (more (codes "label"))
-    (c.in_ok-program-2.ensures ∙ ap (more (codes "policy"))
-    (c.in_ok-program.ensures ∙ ap (more (codes "list")) c.bare-program.ensures))) in
-    let whole : app_of c.in_ok-program-8.program ≡ with_lone bare lone_commands =
-    c.in_ok-program-8.ensures ∙ ap (more (codes "loads"))
-    (c.in_ok-program-7.ensures ∙ ap (more (codes "audit"))
-    (c.in_ok-program-6.ensures ∙ ap (more (codes "carry"))
-    (c.in_ok-program-5.ensures ∙ ap (more (codes "buffers")) four))) in
-    subst (λ (a : App). IfOk c.with_numbered.result
-    (λ p. app_of p ≡ with_subcommand a (numbered (codes "gen")))) whole c.with_numbered.ensures
+    let shape = c.in_ok-numbered.ensures in
+    let local = third_is_false _ _ _ _ (ap (λ (s : Shape). s.is_plain) shape) in
+    let program : app_of c.in_ok-program.program ≡ with_subcommand bare (numbered (codes "gen")) =
+    c.in_ok-program.ensures.shape local
+    ∙ ap (λ (s : Shape). with_subcommand (app_of c.bare.result) s) shape
+    ∙ ap (λ (a : App). with_subcommand a (numbered (codes "gen"))) c.bare.ensures in
+    subst (λ (a : App). IfOk c.with_commands.result
+    (λ p. app_of p ≡ with_words a (map (λ e. e.0) lone_commands))) program
+    c.with_commands.ensures
