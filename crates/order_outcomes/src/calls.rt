@@ -4,7 +4,7 @@ ghost use Rattle.std.specs.Prelude.{◌≡◌, if◌then◌else◌, ◌&&◌, �
 ghost use Rattle.report_text.specs.model.events.NewestFirst.{newest_first};
 ghost use Rattle.report_text.specs.model.events.State.{content_after};
 ghost use Rattle.report_text.specs.model.events.pages.Content.{overwritten};
-ghost use Rattle.order_outcomes.specs.Calls.{is_by, is_listed, is_read, listed_in, listed_of, place_told, shows_at, verdict_by, verdict_in, verdict_of, verdict_told};
+ghost use Rattle.order_outcomes.specs.Calls.{is_by, is_listed, is_read, listed_in, listed_of, place_told, shows, shows_at, verdict_by, verdict_in, verdict_of, verdict_told};
 
 use ima_templates::{Entry, Placed};
 use inode_events::{Deed, EndedInode, Event, Told};
@@ -79,18 +79,25 @@ pub fn place_told(told: &Told) -> Option<u64>
     }
 }
 
-// Whether the entry at this place has the digest of the content.
+// Whether the entry isn't a violation, and has the digest of the content.
+fn shows(entry: &Entry, content: &Content) -> bool
+    ensures { result ≡ shows content.now (Some entry.now) }
+{
+    let digest = digest_of_content(entry.digest.algo(), content);
+    !entry.violation && entry.digest.as_slice() == digest.as_slice()
+}
+
+// Whether the entry at this place does.
 fn shows_at(list: &[Entry], content: &Content, place: Option<u64>) -> bool
     ensures { result ≡ shows_at list.now content.now place }
 {
     let Some(place) = place else {
         return false;
     };
-    let Some(entry) = list.get(place as usize) else {
-        return false;
-    };
-    let digest = digest_of_content(entry.digest.algo(), content);
-    !entry.violation && entry.digest.as_slice() == digest.as_slice()
+    match list.get(place as usize) {
+        Some(entry) => shows(entry, content),
+        None => false,
+    }
 }
 
 // Whether the content was listed, or the event's grant has added or found an entry for it.

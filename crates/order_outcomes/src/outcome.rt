@@ -1,6 +1,8 @@
 // The outcome of a run.
 
-ghost use Rattle.std.specs.Prelude.{◌≡◌, ◌++◌, IfOk, OnOk};
+ghost use Rattle.std.specs.Prelude.{◌≡◌, ◌++◌, codes, IfOk, OnOk};
+ghost use Rattle.report_text.specs.Numerals.{numeral};
+ghost use Rattle.order_outcomes.specs.Calls.{listed_of, verdict_of};
 ghost use Rattle.order_outcomes.specs.Outcome.{call_text, calls_text, done_text, listed_text, outcome_of, task_text, tasks_text, verdict_text};
 
 use crate::calls::{listed_of, verdict_of};
@@ -35,6 +37,25 @@ fn push_listed(out: &mut Vec<u8>, listed: Option<bool>) -> Result<(), OutOfMemor
     }
 }
 
+// Prints what the journals say of a call: the verdict of its grant, and of a read whether the list
+// had the content.
+fn push_said(
+    alloc: Global,
+    out: &mut Vec<u8>,
+    ended: &Ended,
+    task: usize,
+    call: usize,
+) -> Result<(), OutOfMemory>
+    ensures { OnOk result (out.new.items
+        ≡ out.old.items ++ verdict_text (verdict_of task call ended.now.inodes)
+        ++ listed_text (listed_of ended.now.list task call ended.now.inodes)) }
+{
+    let inodes = ended.inodes.as_slice();
+    let listed = listed_of(alloc, ended.list.as_slice(), inodes, task, call)?;
+    push_verdict(out, verdict_of(inodes, task, call))?;
+    push_listed(out, listed)
+}
+
 // Prints the line of a call.
 fn push_call(
     alloc: Global,
@@ -47,16 +68,11 @@ fn push_call(
     ensures { OnOk result (out.new.items ≡ out.old.items
         ++ call_text ended.now.list ended.now.inodes task call reply.now) }
 {
-    let inodes = ended.inodes.as_slice();
-    let verdict = verdict_of(inodes, task, call);
-    let listed = listed_of(alloc, ended.list.as_slice(), inodes, task, call)?;
     push_number(out, call as u64)?;
     out.extend_from_slice(b" ")?;
     push_reply(out, reply)?;
-    push_verdict(out, verdict)?;
-    push_listed(out, listed)?;
-    out.extend_from_slice(b"\n")?;
-    Ok(())
+    push_said(alloc, out, ended, task, call)?;
+    out.extend_from_slice(b"\n")
 }
 
 // Prints the lines of the answered calls of a task.
@@ -86,6 +102,16 @@ fn push_done(out: &mut Vec<u8>, done: bool) -> Result<(), OutOfMemory>
     }
 }
 
+// Prints the number of a task, and whether all of its calls are answered.
+fn push_head(out: &mut Vec<u8>, number: usize, done: bool) -> Result<(), OutOfMemory>
+    ensures { OnOk result (out.new.items
+        ≡ out.old.items ++ codes "task " ++ numeral number ++ done_text done) }
+{
+    out.extend_from_slice(b"task ")?;
+    push_number(out, number as u64)?;
+    push_done(out, done)
+}
+
 // Prints the lines of a task: whether all of its calls are answered, and what they were told.
 fn push_task(
     alloc: Global,
@@ -97,11 +123,8 @@ fn push_task(
     ensures { OnOk result (out.new.items ≡ out.old.items
         ++ task_text ended.now.list ended.now.inodes number task.now) }
 {
-    out.extend_from_slice(b"task ")?;
-    push_number(out, number as u64)?;
-    push_done(out, task.done)?;
-    push_calls(alloc, out, ended, number, task.replies.as_slice())?;
-    Ok(())
+    push_head(out, number, task.done)?;
+    push_calls(alloc, out, ended, number, task.replies.as_slice())
 }
 
 fn push_tasks(
