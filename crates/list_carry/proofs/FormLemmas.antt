@@ -1,7 +1,7 @@
 -- Loading what was saved gives the list back, and saving what was loaded gives the bytes back.
-use Rattle.std.proofs.Common.{◌≡◌, ℕ, zero, suc, ◌+◌, ◌^◌, ◌<◌, ◌≤◌, ◌==◌, Bool, true, false, not, ◌&&◌, cond, List, [], ◌∷◌, ◌++◌, length, get_or, take, drop, Option, None, Some, Result, Ok, Err, refl, sym, ap, subst, ◌∙◌, arith, append_assoc, length-append, length-drop, eqb-true, ne_eqb, le-leb, le-ltb, leb, leb-true, ltb, ltb-false}
+use Rattle.std.proofs.Common.{◌≡◌, ℕ, zero, suc, ◌+◌, ◌-◌, ◌^◌, ◌<◌, ◌≤◌, ◌==◌, Bool, true, false, not, ◌&&◌, cond, List, [], ◌∷◌, ◌++◌, length, get_or, take, drop, Option, None, Some, Result, Ok, Err, refl, sym, ap, subst, ◌∙◌, arith, append_assoc, append-nil, length-append, length-drop, eqb-true, ne_eqb, le-leb, le-ltb, leb, leb-true, lt-ltb, ltb, ltb-false, Fits, slice_index_or, w8}
 use Rattle.std.proofs.lemmas.Bool.{and_from, and_parts, false≢true, not-false, not-true}
-use Rattle.std.proofs.lemmas.List.{take_more, length-take-le, drop-drop, take-append-drop}
+use Rattle.std.proofs.lemmas.List.{take_at, take_more, take_rest, take-take, length-take, length-take-le, drop-drop, take-append-drop}
 use Rattle.std.proofs.lemmas.List.Concat.{flat_map-append}
 use Rattle.std.proofs.lemmas.Option.{none-some, same_Some}
 use Rattle.std.specs.Prelude.{IfOk, SomeIff}
@@ -31,6 +31,14 @@ appended_sized o grown whole bytes n first second count =
     second ∙ (λ i. first i ++ bytes) ∙ append_assoc o (little_bytes 4 n) bytes
     ∙ ap (λ (k : ℕ). o ++ (little_bytes 4 k ++ bytes)) count
 
+-- bytes that are appended to bytes that were kept don't change what was there before them
+pub kept_before : (k m : ℕ) (o x grown whole : List ℕ) → length o ≡ k → grown ≡ o ++ x
+    → take m whole ≡ grown → take k whole ≡ o
+kept_before k m o x grown whole long is kept =
+    let within : k ≤ m =
+    omega (arith, long, ap length is, length-append o x, ap length kept, length-take m whole) in
+    sym (take-take k m whole within) ∙ ap (take k) (kept ∙ is) ∙ take_at o x k long
+
 -- five lists, grouped from the second on
 regroup : (o a b c d : List ℕ) → (((o ++ a) ++ b) ++ c) ++ d ≡ o ++ (((a ++ b) ++ c) ++ d)
 regroup o a b c d = simp append_assoc
@@ -49,10 +57,30 @@ appended_header o p q r s count whole first second third fourth =
 
 -- ---- tests of a header
 
+-- the tests of a header in their order
+abbrev tested : Bool → ℕ → ℕ → ℕ → Result ℕ CarryCause
+tested right long stated count =
+    cond (not right) (Err cause.Header) (cond (ltb long stated) (Err cause.Short)
+    (cond (ltb stated long) (Err cause.Trailing) (Ok count)))
+
+-- fewer bytes than stated
+tested-short : (right : Bool) (long stated count : ℕ) → right ≡ true → long < stated
+    → tested right long stated count ≡ Err cause.Short
+tested-short right long stated count is less =
+    let below : ltb long stated ≡ true = lt-ltb long stated less in
+    rw (is, below) refl
+
+-- more bytes than stated
+tested-trailing : (right : Bool) (long stated count : ℕ) → right ≡ true → stated < long
+    → tested right long stated count ≡ Err cause.Trailing
+tested-trailing right long stated count is more =
+    let not_below : ltb long stated ≡ false = le-ltb long stated (omega (arith, more)) in
+    let above : ltb stated long ≡ true = lt-ltb stated long more in
+    rw (is, not_below, above) refl
+
 -- a header that is right gives the count
 counted : (right : Bool) (long stated count : ℕ) → right ≡ true → stated ≡ long
-    → cond (not right) (Err cause.Header) (cond (ltb long stated) (Err cause.Short)
-    (cond (ltb stated long) (Err cause.Trailing) (Ok count))) ≡ Ok count
+    → tested right long stated count ≡ Ok count
 counted right long stated count is same =
     let not_above : ltb long stated ≡ false = le-ltb long stated (omega (arith, same)) in
     let not_below : ltb stated long ≡ false = le-ltb stated long (omega (arith, same)) in
@@ -113,23 +141,35 @@ length-record_of : (e : Entry) → length (record_of e) ≡ 10 + length (templat
 unfolding record_of sized
 length-record_of e = omega arith
 
+-- the records of one more entry
+records_of-more : (list : List Entry) (i : ℕ) (e : Entry) → i < length list → e ≡ get_or list i e
+    → records_of (take (i + 1) list) ≡ records_of (take i list) ++ record_of e
+records_of-more list i e within is =
+    ap records_of (take_more list i e within ∙ (λ k. take i list ++ sym is k ∷ []))
+    ∙ flat_map-append record_of (take i list) (e ∷ [])
+    ∙ ap (λ (l : List ℕ). records_of (take i list) ++ l) (append-nil (record_of e))
+
 -- the length of the form of one more entry
 pub form_length-more : (list : List Entry) (i : ℕ) (e : Entry) → i < length list
     → e ≡ get_or list i e
     → form_length (take (i + 1) list)
     ≡ form_length (take i list) + (10 + length (template_data e))
 form_length-more list i e within is =
-    let more : take (i + 1) list ≡ take i list ++ e ∷ [] =
-    take_more list i e within ∙ (λ k. take i list ++ sym is k ∷ []) in
-    let records : records_of (take (i + 1) list) ≡ records_of (take i list) ++ (record_of e ++ []) =
-    ap records_of more ∙ flat_map-append record_of (take i list) (e ∷ []) in
     omega (
       arith,
-      ap length records,
-      length-append (records_of (take i list)) (record_of e ++ []),
-      length-append (record_of e) [],
+      ap length (records_of-more list i e within is),
+      length-append (records_of (take i list)) (record_of e),
       length-record_of e,
     )
+
+-- the record of one more entry is appended
+pub appended_record : (list : List Entry) (i : ℕ) (e : Entry) (o grown whole : List ℕ)
+    → i < length list → e ≡ get_or list i e → grown ≡ o ++ records_of (take i list)
+    → whole ≡ grown ++ record_of e → whole ≡ o ++ records_of (take (i + 1) list)
+appended_record list i e o grown whole within is so_far more =
+    more ∙ (λ k. so_far k ++ record_of e)
+    ∙ append_assoc o (records_of (take i list)) (record_of e)
+    ∙ ap (λ (l : List ℕ). o ++ l) (sym (records_of-more list i e within is))
 
 -- a sum that fits is the sum
 pub sum_is : (o : Option ℕ) (P : Type 0) (v x : ℕ) → SomeIff o P v → o ≡ Some x → x ≡ v
@@ -186,6 +226,11 @@ module _ (list : List Entry) (fits : form_length list < 2 ^ 64) where
       (all_new-distinct list carried.distinct)
 
 -- ---- a right header is the one that would be written
+
+-- numbers that fit in eight bits are bytes
+pub IsBytes-fits : (bytes : List ℕ) → ((k : ℕ) → Fits w8 (slice_index_or bytes k 0))
+    → IsBytes bytes
+IsBytes-fits bytes fits k = let fit = fits k in omega arith
 
 -- the bytes from a place on are bytes
 pub IsBytes-drop : (n : ℕ) (bytes : List ℕ) → IsBytes bytes → IsBytes (drop n bytes)
@@ -327,12 +372,89 @@ IsLoaded-load_of bytes list small is =
           ∙ sym (header-then bytes small parts);
     }
 
--- the list that is loaded has as many entries as the header states
-pub length-records_in : (count : ℕ) (bytes : List ℕ) (list : List Entry) → IsBytes bytes
-    → records_in count bytes ≡ Some list → length list ≡ count
-length-records_in count bytes list small is = (records_in-parts count bytes list small is).count
+-- a header that gives a count has its parts
+pub HasParts-counted : (bytes : List ℕ) (count : ℕ) → Ok count ≡ count_in bytes → HasParts bytes
+HasParts-counted bytes count is =
+    HasParts-header bytes (IsHeaded-counted bytes count (sym is)).right
+
+-- the records of a right header give at least one entry
+pub not_empty : (bytes : List ℕ) (count : ℕ) (list : List Entry) → IsBytes bytes
+    → Ok count ≡ count_in bytes → Some list ≡ records_in count (drop header_length bytes)
+    → 1 ≤ length list
+not_empty bytes count list small is records =
+    omega (
+      arith,
+      (records_in-parts count (drop header_length bytes) list
+          (IsBytes-drop header_length bytes small) (sym records)).count,
+      (IsHeaded-counted bytes count (sym is)).count_is,
+      (HasParts-counted bytes count is).some,
+    )
+
+-- ---- the steps of reading a header
+
+-- the numbers of a header are within bytes that are as many as a header has
+module _ (bytes : List ℕ) (long : header_length ≤ length bytes) where
+  pub version-within : 4 ≤ length bytes
+  version-within = omega (arith, long)
+
+  pub version-read : 4 ≤ length (take (length bytes - 4) (drop 4 bytes))
+  version-read = rw (take_rest bytes 4) (omega (arith, long, length-drop 4 bytes))
+
+  pub count-within : 8 ≤ length bytes
+  count-within = omega (arith, long)
+
+  pub count-read : 8 ≤ length (take (length bytes - 8) (drop 8 bytes))
+  count-read = rw (take_rest bytes 8) (omega (arith, long, length-drop 8 bytes))
+
+  pub length-within : 16 ≤ length bytes
+  length-within = omega (arith, long)
+
+  pub length-read : 8 ≤ length (take (length bytes - 16) (drop 16 bytes))
+  length-read = rw (take_rest bytes 16) (omega (arith, long, length-drop 16 bytes))
+
+module _ (bytes : List ℕ) (right : true ≡ has_header bytes) where
+  -- a right header is whole
+  pub right-long : header_length ≤ length bytes
+  right-long = (HasParts-header bytes (sym right)).long
+
+  module _ (stated : ℕ) (is : stated ≡ little_number 8 (take (length bytes - 16) (drop 16 bytes)))
+    where
+      length_is : stated ≡ stated_length bytes
+      length_is = is ∙ ap (little_number 8) (take_rest bytes 16)
+
+      pub count_in-short : length bytes < stated → Err cause.Short ≡ count_in bytes
+      count_in-short less =
+          sym (tested-short (has_header bytes) (length bytes) (stated_length bytes)
+          (stated_count bytes) (sym right) (omega (arith, less, length_is)))
+
+      pub count_in-trailing : stated < length bytes → Err cause.Trailing ≡ count_in bytes
+      count_in-trailing more =
+          sym (tested-trailing (has_header bytes) (length bytes) (stated_length bytes)
+          (stated_count bytes) (sym right) (omega (arith, more, length_is)))
+
+      pub count_in-whole : (count : ℕ) → stated ≤ length bytes → length bytes ≤ stated
+          → count ≡ little_number 8 (take (length bytes - 8) (drop 8 bytes))
+          → Ok count ≡ count_in bytes
+      count_in-whole count most least count_is =
+          ap Ok (count_is ∙ ap (little_number 8) (take_rest bytes 8))
+          ∙ sym (counted (has_header bytes) (length bytes) (stated_length bytes)
+          (stated_count bytes) (sym right) (omega (arith, most, least, length_is)))
+
+-- without a right header there is no count
+pub count_in-headless : (bytes : List ℕ) → false ≡ has_header bytes
+    → Err cause.Header ≡ count_in bytes
+count_in-headless bytes wrong =
+    ap (λ (right : Bool). tested right (length bytes) (stated_length bytes) (stated_count bytes))
+    wrong
 
 -- ---- the steps of loading
+
+-- a header that is refused is the cause
+pub load_of-refused : (bytes : List ℕ) (c : CarryCause) → Err c ≡ count_in bytes
+    → load_of bytes ≡ Err c
+unfolding load_of
+load_of-refused bytes c is =
+    ap (λ (r : Result ℕ CarryCause). list_after r (drop header_length bytes)) (sym is)
 
 -- the list is what the records give
 pub load_of-counted : (bytes : List ℕ) (count : ℕ) (o : Option (List Entry))

@@ -1,8 +1,8 @@
 // Reading a carried form.
 
-ghost use Rattle.std.specs.Prelude.{◌≡◌, ◌≤◌, length, IfOk, IsTrue, OnOk};
-ghost use Rattle.list_carry.specs.Form.{IsCarried, carried_form, header_length};
-ghost use Rattle.list_carry.specs.Reading.{Loads, count_in, has_header, load_of, stated_count};
+ghost use Rattle.std.specs.Prelude.{◌≡◌, IfOk};
+ghost use Rattle.list_carry.specs.Form.{IsCarried, carried_form};
+ghost use Rattle.list_carry.specs.Reading.{Loads, count_in, has_header, load_of};
 
 use crate::carried::Carried;
 use crate::causes::{CarryCause, CarryErr};
@@ -21,7 +21,6 @@ pub(crate) const VERSION: u32 = 1;
 
 /// Reads the carried form of a list. The bytes are refused exactly if they aren't the carried form
 /// of a list, with the first cause that holds.
-#[tactic(auto, unfolding(crate::specs::Reading::load_of))]
 pub fn load(alloc: Global, b: &[u8]) -> Result<Carried, CarryErr>
     ensures list { Loads result (load_of b.now) }
     ensures carried { IfOk result IsCarried }
@@ -36,9 +35,7 @@ pub fn load(alloc: Global, b: &[u8]) -> Result<Carried, CarryErr>
 
 // The number of records, if the header is right.
 fn count_in(b: &[u8]) -> Result<u64, CarryCause>
-    ensures count { result ≡ count_in b.now }
-    ensures whole { OnOk result (header_length ≤ length b.now) }
-    ensures some { IfOk result (λ count. 1 ≤ count) }
+    ensures { result ≡ count_in b.now }
 {
     if !has_header(b) {
         return Err(CarryCause::Header);
@@ -57,15 +54,14 @@ fn count_in(b: &[u8]) -> Result<u64, CarryCause>
 // Whether the bytes begin with a header of this version that states at least one record.
 #[tactic(auto, unfolding(crate::specs::Reading::has_header))]
 fn has_header(b: &[u8]) -> bool
-    ensures header { result ≡ has_header b.now }
-    ensures whole { IsTrue result → header_length ≤ length b.now }
-    ensures some { IsTrue result → 1 ≤ stated_count b.now }
+    ensures { result ≡ has_header b.now }
 {
     if b.len() < HEADER_LENGTH {
         return false;
     }
     let mark = &b[..4];
-    mark == MARK.as_slice()
-        && LittleEndian::read_u32(&b[4..]) == VERSION
-        && LittleEndian::read_u64(&b[8..]) != 0
+    if mark != MARK.as_slice() {
+        return false;
+    }
+    LittleEndian::read_u32(&b[4..]) == VERSION && LittleEndian::read_u64(&b[8..]) != 0
 }

@@ -1,6 +1,6 @@
 // Writing a carried form.
 
-ghost use Rattle.std.specs.Prelude.{◌≡◌, ◌++◌, ◌<◌, ◌^◌, take, IfOk, OnErr, OnOk};
+ghost use Rattle.std.specs.Prelude.{◌≡◌, [], ◌∷◌, ◌++◌, ◌<◌, ◌^◌, take, IfOk, OnErr, OnOk};
 ghost use Rattle.std.specs.Vec.{vec_len};
 ghost use Rattle.byteorder.specs.Endian.{little_bytes};
 ghost use Rattle.ima_templates.specs.Data.{sized, template_data};
@@ -91,10 +91,9 @@ fn append_record_head(e: &Entry, out: &mut Vec<u8>) -> Result<(), OutOfMemory>
     ensures ok { OnOk result (out.new.items ≡ out.old.items ++ record_head e.now) }
     ensures kept { take (vec_len out.old) out.new.items ≡ out.old.items }
 {
-    out.extend_from_slice(&[flag(e.violation)])?;
+    append_byte(flag(e.violation), out)?;
     append_u32(u32::from(e.pcr), out)?;
-    out.extend_from_slice(&[template_number(e.template)])?;
-    Ok(())
+    append_byte(template_number(e.template), out)
 }
 
 // Appends the template data after their length.
@@ -105,6 +104,14 @@ fn append_data(e: &Entry, out: &mut Vec<u8>) -> Result<(), OutOfMemory>
     append_u32(e.data_length()? as u32, out)?;
     e.absorb_data(out)?;
     Ok(())
+}
+
+// Appends a byte.
+fn append_byte(n: u8, out: &mut Vec<u8>) -> Result<(), OutOfMemory>
+    ensures ok { OnOk result (out.new.items ≡ out.old.items ++ n ∷ []) }
+    ensures err { OnErr result (out.new.items ≡ out.old.items) }
+{
+    out.extend_from_slice(&[n])
 }
 
 // Appends a number in 4 bytes, little-endian.

@@ -1,11 +1,7 @@
 -- The records of the entries passed so far were appended.
 use Rattle.std.proofs.Common.{◌≡◌, ◌++◌, take}
-use Rattle.std.specs.Vec.{vec_len}
 use Rattle.list_carry.specs.Form.{records_of}
 use Rattle.list_carry.proofs.writing.append_records.Given as goal
 
 abbrev pub invariant-loop-e : goal.invariant-loop-e
-invariant-loop-e l = record {
-  appended : l.out.items ≡ l.initial.out.items ++ records_of (take l.e-index l.list);
-  kept : take (vec_len l.initial.out) l.out.items ≡ l.initial.out.items;
-}
+invariant-loop-e l = l.out.items ≡ l.initial.out.items ++ records_of (take l.e-index l.list)
