@@ -234,6 +234,9 @@ abbrev pub fits : ℕ → List Event → Event → Bool
 fits entries before e =
     file_fits before (file_of e.deed) && entry_fits entries (entry_of e.outcome)
 
+abbrev pub event_taken : ℕ → Event → Draft → Draft
+event_taken left e d = events_left (left - 1) (record d { events = d.events ++ e ∷ [] })
+
 abbrev pub event_at : ℕ → Event → Draft → Option Draft
 event_at left e d =
     if fits (length d.entries) d.events e

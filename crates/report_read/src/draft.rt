@@ -1,7 +1,8 @@
 // Reports while their lines are read.
 
-ghost use Rattle.std.specs.Prelude.{◌≡◌, map, OnOk};
+ghost use Rattle.std.specs.Prelude.{◌≡◌, length, map, OnOk};
 ghost use Rattle.report_read.specs.Draft as spec;
+ghost use Rattle.report_read.specs.Lines.{event_of};
 ghost use Rattle.report_read.specs.Makes.{Makes};
 
 use crate::fault::LineErr;
@@ -379,15 +380,37 @@ impl Draft {
         ensures { Makes result (spec.with_event left line (map (λ w. w.now) words.now) self.old)
             self.new }
     {
-        let Some(event) = event_of(self.events.len(), line, words) else {
+        let Some(event) = self.event_in(line, words) else {
             return Err(LineErr::Refused);
         };
-        if !fits(self.entries.len(), &self.events, event) {
+        if !self.takes(event) {
             return Err(LineErr::Refused);
         }
-        self.events.push(event)?;
-        self.events_left(alloc, left.saturating_sub(1))?;
+        self.push_event(alloc, left, event)?;
         Ok(())
+    }
+
+    // The event of the next place.
+    fn event_in(&self, line: Span, words: &[&[u8]]) -> Option<Event>
+        ensures { result
+            ≡ event_of (length self.now.events) line (map (λ w. w.now) words.now) }
+    {
+        event_of(self.events.len(), line, words)
+    }
+
+    // Whether the event fits the list and the events before it.
+    fn takes(&self, event: Event) -> bool
+        ensures { result ≡ spec.fits (length self.now.entries) self.now.events event }
+    {
+        fits(self.entries.len(), &self.events, event)
+    }
+
+    // One more event of the journal, of which so many were left.
+    fn push_event(&mut self, alloc: Global, left: u32, event: Event) -> Result<(), OutOfMemory>
+        ensures { OnOk result (self.new ≡ spec.event_taken left event self.old) }
+    {
+        self.events.push(event)?;
+        self.events_left(alloc, left.saturating_sub(1))
     }
 
     // The replies of the task that is being read have been read.
