@@ -17,3 +17,4 @@ mod Examples
 pub mod BarsSteps
 pub mod Firsts
 pub mod WalkPlaces
+pub mod WindowsSteps
