@@ -1,11 +1,12 @@
 // The program's own bytes of a drawing.
 
-ghost use Rattle.std.specs.Prelude.{◌≡◌, ◌++◌, OnOk};
+ghost use Rattle.std.specs.Prelude.{◌≡◌, ◌≢◌, ◌++◌, OnOk};
 ghost use Rattle.view_page.specs.Own as spec;
+ghost use Rattle.view_page.specs.declared.own.Own.TheVariants as variants;
 
 use crate::escape::push_all;
 use crate::rules::push_rules;
-use crate::shape::push_shape;
+use crate::shape::shape;
 use report_read::{Deed, Kind};
 use std::alloc::AllocError as OutOfMemory;
 use view_journal::{Freshness, Guide, Look, Mark, Note, Strip};
@@ -108,263 +109,249 @@ pub fn push_own(out: &mut Vec<u8>, own: Own) -> Result<(), OutOfMemory>
     ensures { OnOk result (out.new.items ≡ out.old.items ++ spec.own_bytes own) }
 {
     match own {
-        Own::Svg => {
-            push_all(
-                out,
-                b"<svg xmlns=\"http://www.w3.org/2000/svg\" class=\"tl\" width=\"",
-            )
-        }
-        Own::SvgHeight => push_all(out, b"\" height=\""),
-        Own::SvgBox => push_all(out, b"\" viewBox=\"0 -"),
-        Own::Space => push_all(out, b" "),
-        Own::SvgOpen => push_all(out, b"\">"),
-        Own::Style => push_all(out, b"<style>"),
-        Own::StyleEnd => push_all(out, b"</style>"),
-        Own::Y => push_all(out, b"\" y=\""),
-        Own::Width => push_all(out, b"\" width=\""),
-        Own::Height => push_all(out, b"\" height=\""),
-        Own::Close => push_all(out, b"\"/>"),
-        Own::UpFrom => push_all(out, b" -"),
-        Own::DownTo => push_all(out, b"V"),
-        Own::LaneName => push_all(out, b"<text class=\"lane\" x=\"88\" y=\""),
-        Own::TaskIs => push_all(out, b"\">task "),
-        Own::TextEnd => push_all(out, b"</text>"),
-        Own::Is => push_all(out, b"\">"),
-        Own::MinusY => push_all(out, b"\" y=\"-"),
-        Own::Place => push_all(out, b"-e"),
-        Own::At => push_all(out, b"\" transform=\"translate("),
-        Own::Comma => push_all(out, b","),
-        Own::Title => push_all(out, b")\"><title>"),
-        Own::TitleEnd => push_all(out, b"</title>"),
-        Own::GroupEnd => push_all(out, b"</g>"),
-        Own::PlaceText => push_all(out, b"<text class=\"place\" dy=\"10\" x=\""),
-        Own::DeedText => push_all(out, b"<text class=\"deed\" transform=\"translate("),
-        Own::RedText => push_all(out, b"<text class=\"deed red\" transform=\"translate("),
-        Own::Slant => push_all(out, b") translate(4 20) rotate(-52)\">"),
-        Own::Plus => push_all(out, b"+"),
-        Own::GapGroup => push_all(out, b"<g transform=\"translate("),
-        Own::GapBlock => {
-            push_all(
-                out,
-                b")\"><rect class=\"gap\" x=\"8\" y=\"-2\" width=\"74\" height=\"",
-            )
-        }
-        Own::GapText => push_all(out, b"\"/><text class=\"gap\" x=\"45\" y=\"30\">"),
-        Own::GapEnd => push_all(
-            out,
-            b"<tspan x=\"45\" dy=\"14\">not drawn</tspan></text></g>",
-        ),
-        Own::ContentText => push_all(out, b"<text class=\"in\" dx=\"4\" y=\"55\" x=\""),
-        Own::PartingText => push_all(out, b"<text class=\"parts\" dx=\"4\" dy=\"112\" x=\""),
-        Own::PartingWords => push_all(out, b"\">the journals part here</text>"),
-        Own::SvgEnd => push_all(out, b"</svg>\n"),
-        Own::Shape(mark) => push_shape(out, mark),
-        Own::Block(x) => push_block(out, x),
-        Own::Line(x) => push_line(out, x),
-        Own::StripName(x) => push_strip_name(out, x),
-        Own::CountBlock(x) => push_count_block(out, x),
-        Own::ZeroBlock(x) => push_zero_block(out, x),
-        Own::CountText(x) => push_count_text(out, x),
-        Own::ContentBlock(x) => push_content_block(out, x),
-        Own::ContentWord(x) => push_content_word(out, x),
-        Own::FlagBlock(x) => push_flag_block(out, x),
-        Own::FlagText(x) => push_flag_text(out, x),
-        Own::FlagWords(x) => push_flag_words(out, x),
-        Own::Group(x) => push_group(out, x),
-        Own::DeedWord(x) => push_deed_word(out, x),
-        Own::KindWord(x) => push_kind_word(out, x),
         Own::Rules => push_rules(out),
+        _ => push_all(out, own_bytes(own)),
     }
 }
 
-fn push_block(out: &mut Vec<u8>, x: Look) -> Result<(), OutOfMemory>
-    ensures { OnOk result (out.new.items ≡ out.old.items ++ spec.block x) }
+// Its bytes, but for the rules, which are many texts.
+fn own_bytes(own: Own) -> &'static [u8]
+    ensures { own ≢ variants.Rules → result.now ≡ spec.own_bytes own }
 {
-    match x {
-        Look::Lane => push_all(out, b"<rect class=\"l0\" x=\""),
-        Look::OtherLane => push_all(out, b"<rect class=\"l1\" x=\""),
-        Look::Differs => push_all(out, b"<rect class=\"differs\" x=\""),
-        Look::Hashing => push_all(out, b"<rect class=\"hash\" x=\""),
-        Look::Bar(Kind::Read) => push_all(out, b"<rect rx=\"3\" class=\"b-r\" x=\""),
-        Look::Bar(Kind::Write) => push_all(out, b"<rect rx=\"3\" class=\"b-w\" x=\""),
-        Look::Bar(Kind::ReadWrite) => push_all(out, b"<rect rx=\"3\" class=\"b-rw\" x=\""),
-        Look::Bar(Kind::Exec) => push_all(out, b"<rect rx=\"3\" class=\"b-x\" x=\""),
-        Look::StillOpen(Kind::Read) => push_all(out, b"<rect rx=\"3\" class=\"b-r still\" x=\""),
-        Look::StillOpen(Kind::Write) => push_all(out, b"<rect rx=\"3\" class=\"b-w still\" x=\""),
-        Look::StillOpen(Kind::ReadWrite) => {
-            push_all(out, b"<rect rx=\"3\" class=\"b-rw still\" x=\"")
-        }
-        Look::StillOpen(Kind::Exec) => push_all(out, b"<rect rx=\"3\" class=\"b-x still\" x=\""),
+    match own {
+        Own::Svg => b"<svg xmlns=\"http://www.w3.org/2000/svg\" class=\"tl\" width=\"",
+        Own::SvgHeight => b"\" height=\"",
+        Own::SvgBox => b"\" viewBox=\"0 -",
+        Own::Space => b" ",
+        Own::SvgOpen => b"\">",
+        Own::Style => b"<style>",
+        Own::StyleEnd => b"</style>",
+        Own::Y => b"\" y=\"",
+        Own::Width => b"\" width=\"",
+        Own::Height => b"\" height=\"",
+        Own::Close => b"\"/>",
+        Own::UpFrom => b" -",
+        Own::DownTo => b"V",
+        Own::LaneName => b"<text class=\"lane\" x=\"88\" y=\"",
+        Own::TaskIs => b"\">task ",
+        Own::TextEnd => b"</text>",
+        Own::Is => b"\">",
+        Own::MinusY => b"\" y=\"-",
+        Own::Place => b"-e",
+        Own::At => b"\" transform=\"translate(",
+        Own::Comma => b",",
+        Own::Title => b")\"><title>",
+        Own::TitleEnd => b"</title>",
+        Own::GroupEnd => b"</g>",
+        Own::PlaceText => b"<text class=\"place\" dy=\"10\" x=\"",
+        Own::DeedText => b"<text class=\"deed\" transform=\"translate(",
+        Own::RedText => b"<text class=\"deed red\" transform=\"translate(",
+        Own::Slant => b") translate(4 20) rotate(-52)\">",
+        Own::Plus => b"+",
+        Own::GapGroup => b"<g transform=\"translate(",
+        Own::GapBlock => b")\"><rect class=\"gap\" x=\"8\" y=\"-2\" width=\"74\" height=\"",
+        Own::GapText => b"\"/><text class=\"gap\" x=\"45\" y=\"30\">",
+        Own::GapEnd => b"<tspan x=\"45\" dy=\"14\">not drawn</tspan></text></g>",
+        Own::ContentText => b"<text class=\"in\" dx=\"4\" y=\"55\" x=\"",
+        Own::PartingText => b"<text class=\"parts\" dx=\"4\" dy=\"112\" x=\"",
+        Own::PartingWords => b"\">the journals part here</text>",
+        Own::SvgEnd => b"</svg>\n",
+        Own::Shape(mark) => shape(mark),
+        Own::Block(x) => block(x),
+        Own::Line(x) => line(x),
+        Own::StripName(x) => strip_name(x),
+        Own::CountBlock(x) => count_block(x),
+        Own::ZeroBlock(x) => zero_block(x),
+        Own::CountText(x) => count_text(x),
+        Own::ContentBlock(x) => content_block(x),
+        Own::ContentWord(x) => content_word(x),
+        Own::FlagBlock(x) => flag_block(x),
+        Own::FlagText(x) => flag_text(x),
+        Own::FlagWords(x) => flag_words(x),
+        Own::Group(x) => group(x),
+        Own::DeedWord(x) => deed_word(x),
+        Own::KindWord(x) => kind_word(x),
+        Own::Rules => b"",
     }
 }
 
-fn push_line(out: &mut Vec<u8>, x: Guide) -> Result<(), OutOfMemory>
-    ensures { OnOk result (out.new.items ≡ out.old.items ++ spec.line x) }
+fn block(x: Look) -> &'static [u8]
+    ensures { result.now ≡ spec.block x }
 {
     match x {
-        Guide::Write => push_all(out, b"<path class=\"g-w\" d=\"M"),
-        Guide::Violation => push_all(out, b"<path class=\"g-v\" d=\"M"),
-        Guide::Denial => push_all(out, b"<path class=\"g-d\" d=\"M"),
-        Guide::Added => push_all(out, b"<path class=\"g-a\" d=\"M"),
-        Guide::Parting => push_all(out, b"<path class=\"g-p\" d=\"M"),
+        Look::Lane => b"<rect class=\"l0\" x=\"",
+        Look::OtherLane => b"<rect class=\"l1\" x=\"",
+        Look::Differs => b"<rect class=\"differs\" x=\"",
+        Look::Hashing => b"<rect class=\"hash\" x=\"",
+        Look::Bar(Kind::Read) => b"<rect rx=\"3\" class=\"b-r\" x=\"",
+        Look::Bar(Kind::Write) => b"<rect rx=\"3\" class=\"b-w\" x=\"",
+        Look::Bar(Kind::ReadWrite) => b"<rect rx=\"3\" class=\"b-rw\" x=\"",
+        Look::Bar(Kind::Exec) => b"<rect rx=\"3\" class=\"b-x\" x=\"",
+        Look::StillOpen(Kind::Read) => b"<rect rx=\"3\" class=\"b-r still\" x=\"",
+        Look::StillOpen(Kind::Write) => b"<rect rx=\"3\" class=\"b-w still\" x=\"",
+        Look::StillOpen(Kind::ReadWrite) => b"<rect rx=\"3\" class=\"b-rw still\" x=\"",
+        Look::StillOpen(Kind::Exec) => b"<rect rx=\"3\" class=\"b-x still\" x=\"",
     }
 }
 
-fn push_strip_name(out: &mut Vec<u8>, x: Strip) -> Result<(), OutOfMemory>
-    ensures { OnOk result (out.new.items ≡ out.old.items ++ spec.strip_name x) }
+fn line(x: Guide) -> &'static [u8]
+    ensures { result.now ≡ spec.line x }
 {
     match x {
-        Strip::Readers => push_all(
-            out,
-            b"<text class=\"strip\" x=\"88\" y=\"11\">readers</text>",
-        ),
-        Strip::Writers => push_all(
-            out,
-            b"<text class=\"strip\" x=\"88\" y=\"26\">writers</text>",
-        ),
-        Strip::Execs => push_all(out, b"<text class=\"strip\" x=\"88\" y=\"41\">execs</text>"),
-        Strip::Content => push_all(
-            out,
-            b"<text class=\"strip\" x=\"88\" y=\"56\">content</text>",
-        ),
+        Guide::Write => b"<path class=\"g-w\" d=\"M",
+        Guide::Violation => b"<path class=\"g-v\" d=\"M",
+        Guide::Denial => b"<path class=\"g-d\" d=\"M",
+        Guide::Added => b"<path class=\"g-a\" d=\"M",
+        Guide::Parting => b"<path class=\"g-p\" d=\"M",
     }
 }
 
-fn push_count_block(out: &mut Vec<u8>, x: Strip) -> Result<(), OutOfMemory>
-    ensures { OnOk result (out.new.items ≡ out.old.items ++ spec.count_block x) }
+fn strip_name(x: Strip) -> &'static [u8]
+    ensures { result.now ≡ spec.strip_name x }
 {
     match x {
-        Strip::Readers => push_all(out, b"<rect class=\"n-r\" y=\"1\" height=\"12\" x=\""),
-        Strip::Writers => push_all(out, b"<rect class=\"n-w\" y=\"16\" height=\"12\" x=\""),
-        Strip::Execs => push_all(out, b"<rect class=\"n-x\" y=\"31\" height=\"12\" x=\""),
-        Strip::Content => push_all(out, b"<rect class=\"n-c\" y=\"46\" height=\"12\" x=\""),
+        Strip::Readers => b"<text class=\"strip\" x=\"88\" y=\"11\">readers</text>",
+        Strip::Writers => b"<text class=\"strip\" x=\"88\" y=\"26\">writers</text>",
+        Strip::Execs => b"<text class=\"strip\" x=\"88\" y=\"41\">execs</text>",
+        Strip::Content => b"<text class=\"strip\" x=\"88\" y=\"56\">content</text>",
     }
 }
 
-fn push_zero_block(out: &mut Vec<u8>, x: Strip) -> Result<(), OutOfMemory>
-    ensures { OnOk result (out.new.items ≡ out.old.items ++ spec.zero_block x) }
+fn count_block(x: Strip) -> &'static [u8]
+    ensures { result.now ≡ spec.count_block x }
 {
     match x {
-        Strip::Readers => push_all(out, b"<rect class=\"zero\" y=\"12\" height=\"1\" x=\""),
-        Strip::Writers => push_all(out, b"<rect class=\"zero\" y=\"27\" height=\"1\" x=\""),
-        Strip::Execs => push_all(out, b"<rect class=\"zero\" y=\"42\" height=\"1\" x=\""),
-        Strip::Content => push_all(out, b"<rect class=\"zero\" y=\"57\" height=\"1\" x=\""),
+        Strip::Readers => b"<rect class=\"n-r\" y=\"1\" height=\"12\" x=\"",
+        Strip::Writers => b"<rect class=\"n-w\" y=\"16\" height=\"12\" x=\"",
+        Strip::Execs => b"<rect class=\"n-x\" y=\"31\" height=\"12\" x=\"",
+        Strip::Content => b"<rect class=\"n-c\" y=\"46\" height=\"12\" x=\"",
     }
 }
 
-fn push_count_text(out: &mut Vec<u8>, x: Strip) -> Result<(), OutOfMemory>
-    ensures { OnOk result (out.new.items ≡ out.old.items ++ spec.count_text x) }
+fn zero_block(x: Strip) -> &'static [u8]
+    ensures { result.now ≡ spec.zero_block x }
 {
     match x {
-        Strip::Readers => push_all(out, b"<text class=\"in\" dx=\"4\" y=\"10\" x=\""),
-        Strip::Writers => push_all(out, b"<text class=\"in\" dx=\"4\" y=\"25\" x=\""),
-        Strip::Execs => push_all(out, b"<text class=\"in\" dx=\"4\" y=\"40\" x=\""),
-        Strip::Content => push_all(out, b"<text class=\"in\" dx=\"4\" y=\"55\" x=\""),
+        Strip::Readers => b"<rect class=\"zero\" y=\"12\" height=\"1\" x=\"",
+        Strip::Writers => b"<rect class=\"zero\" y=\"27\" height=\"1\" x=\"",
+        Strip::Execs => b"<rect class=\"zero\" y=\"42\" height=\"1\" x=\"",
+        Strip::Content => b"<rect class=\"zero\" y=\"57\" height=\"1\" x=\"",
     }
 }
 
-fn push_content_block(out: &mut Vec<u8>, x: Freshness) -> Result<(), OutOfMemory>
-    ensures { OnOk result (out.new.items ≡ out.old.items ++ spec.content_block x) }
+fn count_text(x: Strip) -> &'static [u8]
+    ensures { result.now ≡ spec.count_text x }
 {
     match x {
-        Freshness::NotHashed => push_all(out, b"<rect class=\"c-n\" y=\"46\" height=\"12\" x=\""),
-        Freshness::AsHashed => push_all(out, b"<rect class=\"c-h\" y=\"46\" height=\"12\" x=\""),
-        Freshness::Written => push_all(out, b"<rect class=\"c-w\" y=\"46\" height=\"12\" x=\""),
+        Strip::Readers => b"<text class=\"in\" dx=\"4\" y=\"10\" x=\"",
+        Strip::Writers => b"<text class=\"in\" dx=\"4\" y=\"25\" x=\"",
+        Strip::Execs => b"<text class=\"in\" dx=\"4\" y=\"40\" x=\"",
+        Strip::Content => b"<text class=\"in\" dx=\"4\" y=\"55\" x=\"",
     }
 }
 
-fn push_content_word(out: &mut Vec<u8>, x: Freshness) -> Result<(), OutOfMemory>
-    ensures { OnOk result (out.new.items ≡ out.old.items ++ spec.content_word x) }
+fn content_block(x: Freshness) -> &'static [u8]
+    ensures { result.now ≡ spec.content_block x }
 {
     match x {
-        Freshness::NotHashed => push_all(out, b"\">not hashed</text>"),
-        Freshness::AsHashed => push_all(out, b"\">as hashed</text>"),
-        Freshness::Written => push_all(out, b"\">written since hashed</text>"),
+        Freshness::NotHashed => b"<rect class=\"c-n\" y=\"46\" height=\"12\" x=\"",
+        Freshness::AsHashed => b"<rect class=\"c-h\" y=\"46\" height=\"12\" x=\"",
+        Freshness::Written => b"<rect class=\"c-w\" y=\"46\" height=\"12\" x=\"",
     }
 }
 
-fn push_flag_block(out: &mut Vec<u8>, x: Note) -> Result<(), OutOfMemory>
-    ensures { OnOk result (out.new.items ≡ out.old.items ++ spec.flag_block x) }
+fn content_word(x: Freshness) -> &'static [u8]
+    ensures { result.now ≡ spec.content_word x }
 {
     match x {
-        Note::ToMToU(_) => push_all(out, b"<rect class=\"f-v\" rx=\"2\" height=\"14\" x=\""),
-        Note::OpenWriters(_) => push_all(out, b"<rect class=\"f-v\" rx=\"2\" height=\"14\" x=\""),
-        Note::Denied => push_all(out, b"<rect class=\"f-d\" rx=\"2\" height=\"14\" x=\""),
-        Note::Labelled => push_all(out, b"<rect class=\"f-l\" rx=\"2\" height=\"14\" x=\""),
-        Note::Added(_) => push_all(out, b"<rect class=\"f-a\" rx=\"2\" height=\"14\" x=\""),
-        Note::Already(_) => push_all(out, b"<rect class=\"f-o\" rx=\"2\" height=\"14\" x=\""),
-        Note::Passed => push_all(out, b"<rect class=\"f-p\" rx=\"2\" height=\"14\" x=\""),
+        Freshness::NotHashed => b"\">not hashed</text>",
+        Freshness::AsHashed => b"\">as hashed</text>",
+        Freshness::Written => b"\">written since hashed</text>",
     }
 }
 
-fn push_flag_text(out: &mut Vec<u8>, x: Note) -> Result<(), OutOfMemory>
-    ensures { OnOk result (out.new.items ≡ out.old.items ++ spec.flag_text x) }
+fn flag_block(x: Note) -> &'static [u8]
+    ensures { result.now ≡ spec.flag_block x }
 {
     match x {
-        Note::ToMToU(_) => push_all(out, b"<text class=\"f-v\" dx=\"5\" dy=\"11\" x=\""),
-        Note::OpenWriters(_) => push_all(out, b"<text class=\"f-v\" dx=\"5\" dy=\"11\" x=\""),
-        Note::Denied => push_all(out, b"<text class=\"f-d\" dx=\"5\" dy=\"11\" x=\""),
-        Note::Labelled => push_all(out, b"<text class=\"f-l\" dx=\"5\" dy=\"11\" x=\""),
-        Note::Added(_) => push_all(out, b"<text class=\"f-a\" dx=\"5\" dy=\"11\" x=\""),
-        Note::Already(_) => push_all(out, b"<text class=\"f-o\" dx=\"5\" dy=\"11\" x=\""),
-        Note::Passed => push_all(out, b"<text class=\"f-p\" dx=\"5\" dy=\"11\" x=\""),
+        Note::ToMToU(_) => b"<rect class=\"f-v\" rx=\"2\" height=\"14\" x=\"",
+        Note::OpenWriters(_) => b"<rect class=\"f-v\" rx=\"2\" height=\"14\" x=\"",
+        Note::Denied => b"<rect class=\"f-d\" rx=\"2\" height=\"14\" x=\"",
+        Note::Labelled => b"<rect class=\"f-l\" rx=\"2\" height=\"14\" x=\"",
+        Note::Added(_) => b"<rect class=\"f-a\" rx=\"2\" height=\"14\" x=\"",
+        Note::Already(_) => b"<rect class=\"f-o\" rx=\"2\" height=\"14\" x=\"",
+        Note::Passed => b"<rect class=\"f-p\" rx=\"2\" height=\"14\" x=\"",
     }
 }
 
-fn push_flag_words(out: &mut Vec<u8>, x: Note) -> Result<(), OutOfMemory>
-    ensures { OnOk result (out.new.items ≡ out.old.items ++ spec.flag_words x) }
+fn flag_text(x: Note) -> &'static [u8]
+    ensures { result.now ≡ spec.flag_text x }
 {
     match x {
-        Note::ToMToU(_) => push_all(out, b"ToMToU = entry "),
-        Note::OpenWriters(_) => push_all(out, b"open-writers = entry "),
-        Note::Denied => push_all(out, b""),
-        Note::Labelled => push_all(out, b"labelled"),
-        Note::Added(_) => push_all(out, b"entry "),
-        Note::Already(_) => push_all(out, b"already entry "),
-        Note::Passed => push_all(out, b"pass"),
+        Note::ToMToU(_) => b"<text class=\"f-v\" dx=\"5\" dy=\"11\" x=\"",
+        Note::OpenWriters(_) => b"<text class=\"f-v\" dx=\"5\" dy=\"11\" x=\"",
+        Note::Denied => b"<text class=\"f-d\" dx=\"5\" dy=\"11\" x=\"",
+        Note::Labelled => b"<text class=\"f-l\" dx=\"5\" dy=\"11\" x=\"",
+        Note::Added(_) => b"<text class=\"f-a\" dx=\"5\" dy=\"11\" x=\"",
+        Note::Already(_) => b"<text class=\"f-o\" dx=\"5\" dy=\"11\" x=\"",
+        Note::Passed => b"<text class=\"f-p\" dx=\"5\" dy=\"11\" x=\"",
     }
 }
 
-fn push_group(out: &mut Vec<u8>, x: Side) -> Result<(), OutOfMemory>
-    ensures { OnOk result (out.new.items ≡ out.old.items ++ spec.group x) }
+fn flag_words(x: Note) -> &'static [u8]
+    ensures { result.now ≡ spec.flag_words x }
 {
     match x {
-        Side::Alone => push_all(out, b"<g class=\"e\" id=\"i"),
-        Side::First => push_all(out, b"<g class=\"e\" id=\"a-i"),
-        Side::Second => push_all(out, b"<g class=\"e\" id=\"b-i"),
+        Note::ToMToU(_) => b"ToMToU = entry ",
+        Note::OpenWriters(_) => b"open-writers = entry ",
+        Note::Denied => b"",
+        Note::Labelled => b"labelled",
+        Note::Added(_) => b"entry ",
+        Note::Already(_) => b"already entry ",
+        Note::Passed => b"pass",
     }
 }
 
-fn push_deed_word(out: &mut Vec<u8>, x: Deed) -> Result<(), OutOfMemory>
-    ensures { OnOk result (out.new.items ≡ out.old.items ++ spec.deed_word x) }
+fn group(x: Side) -> &'static [u8]
+    ensures { result.now ≡ spec.group x }
 {
     match x {
-        Deed::Birth => push_all(out, b"birth"),
-        Deed::Count { .. } => push_all(out, b"count"),
-        Deed::Check(_) => push_all(out, b"check"),
-        Deed::Take(_) => push_all(out, b"take"),
-        Deed::Chunk(_) => push_all(out, b"chunk"),
-        Deed::Finish(_) => push_all(out, b"finish"),
-        Deed::Read { .. } => push_all(out, b"read "),
-        Deed::Write { .. } => push_all(out, b"write "),
-        Deed::Trunc { .. } => push_all(out, b"trunc "),
-        Deed::SetAttr => push_all(out, b"set-attr"),
-        Deed::RemoveAttr => push_all(out, b"remove-attr"),
-        Deed::SetMeta => push_all(out, b"set-meta"),
-        Deed::Close(_) => push_all(out, b"close"),
-        Deed::CloseTake(_) => push_all(out, b"close-take"),
-        Deed::CloseChunk(_) => push_all(out, b"close-chunk"),
-        Deed::CloseFinish(_) => push_all(out, b"close-finish"),
+        Side::Alone => b"<g class=\"e\" id=\"i",
+        Side::First => b"<g class=\"e\" id=\"a-i",
+        Side::Second => b"<g class=\"e\" id=\"b-i",
     }
 }
 
-fn push_kind_word(out: &mut Vec<u8>, x: Kind) -> Result<(), OutOfMemory>
-    ensures { OnOk result (out.new.items ≡ out.old.items ++ spec.kind_word x) }
+fn deed_word(x: Deed) -> &'static [u8]
+    ensures { result.now ≡ spec.deed_word x }
 {
     match x {
-        Kind::Read => push_all(out, b" r"),
-        Kind::Write => push_all(out, b" w"),
-        Kind::ReadWrite => push_all(out, b" rw"),
-        Kind::Exec => push_all(out, b" x"),
+        Deed::Birth => b"birth",
+        Deed::Count { .. } => b"count",
+        Deed::Check(_) => b"check",
+        Deed::Take(_) => b"take",
+        Deed::Chunk(_) => b"chunk",
+        Deed::Finish(_) => b"finish",
+        Deed::Read { .. } => b"read ",
+        Deed::Write { .. } => b"write ",
+        Deed::Trunc { .. } => b"trunc ",
+        Deed::SetAttr => b"set-attr",
+        Deed::RemoveAttr => b"remove-attr",
+        Deed::SetMeta => b"set-meta",
+        Deed::Close(_) => b"close",
+        Deed::CloseTake(_) => b"close-take",
+        Deed::CloseChunk(_) => b"close-chunk",
+        Deed::CloseFinish(_) => b"close-finish",
+    }
+}
+
+fn kind_word(x: Kind) -> &'static [u8]
+    ensures { result.now ≡ spec.kind_word x }
+{
+    match x {
+        Kind::Read => b" r",
+        Kind::Write => b" w",
+        Kind::ReadWrite => b" rw",
+        Kind::Exec => b" x",
     }
 }
