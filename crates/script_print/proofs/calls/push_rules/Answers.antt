@@ -1,8 +1,16 @@
+use Rattle.std.proofs.Common.{List, ◌++◌, sym, ap, ◌∙◌, subst}
+use Rattle.std.specs.List.{AllByRecursion, flat_map}
+use Rattle.std.proofs.lemmas.List.{append-nil, take_all}
+use Rattle.std.proofs.lemmas.Result.{err_from_is_err_and}
+use Rattle.policy_text.specs.rules.RuleValue.{RuleValue}
 use Rattle.call_lines.specs.Lines.{line_text}
 use Rattle.call_lines.specs.Rules.{IsReadRule}
 use Rattle.script_print.specs.Spelling.{rule_line}
 use Rattle.script_print.proofs.Pieces.{all_more, text_more}
 use Rattle.script_print.proofs.calls.push_rules.Goals as goal
+
+pub loop-rule-init : goal.loop-rule-init
+loop-rule-init c = record { text = sym (append-nil c.args.out.now.items); read = tt }
 
 pub loop-rule-preserved : goal.loop-rule-preserved
 loop-rule-preserved c = record {
@@ -14,3 +22,26 @@ loop-rule-preserved c = record {
       c.loop-rule-test.true c.rule-item.is c.loop-rule.invariant.read
       c.in_ok-push_rule.ensures.rule;
 }
+
+-- without an answer nothing is said of the rules
+pub returns-in_err-push_rule-clause-text : goal.returns-in_err-push_rule-clause-text
+returns-in_err-push_rule-clause-text c =
+    let p = err_from_is_err_and c.from_residual.result c.from_residual.ensures.1 in
+    rw (p.1) tt
+
+pub returns-in_err-push_rule-clause-rules : goal.returns-in_err-push_rule-clause-rules
+returns-in_err-push_rule-clause-rules c =
+    let p = err_from_is_err_and c.from_residual.result c.from_residual.ensures.1 in
+    rw (p.1) tt
+
+pub returns-clause-text : goal.returns-clause-text
+returns-clause-text c =
+    c.loop-rule.invariant.text
+    ∙ ap (λ (rules : List RuleValue). c.args.out.now.items ++ flat_map (λ r. line_text (rule_line r)) rules)
+    (take_all c.loop-rule.rule-index c.args.rules.now c.loop-rule-test.false)
+
+pub returns-clause-rules : goal.returns-clause-rules
+returns-clause-rules c =
+    subst (λ (rules : List RuleValue). AllByRecursion IsReadRule rules)
+    (take_all c.loop-rule.rule-index c.args.rules.now c.loop-rule-test.false)
+    c.loop-rule.invariant.read
