@@ -1,3 +1,4 @@
+pub mod Appended
 pub mod FlagsLemmas
 pub mod InLanes
 pub mod LanesLemmas

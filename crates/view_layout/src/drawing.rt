@@ -1,6 +1,6 @@
 // The drawing of a journal, as a list of items.
 
-ghost use Rattle.std.specs.Prelude.{◌≡◌, ◌++◌, ◌+◌, ◌<◌, ◌^◌, length, IfOk, OnOk};
+ghost use Rattle.std.specs.Prelude.{◌≡◌, ◌++◌, ◌+◌, ◌≤◌, ◌<◌, ◌^◌, length, IfOk, OnOk};
 ghost use Rattle.view_layout.specs.Drawing as spec;
 ghost use Rattle.view_layout.specs.SketchView.{parts_in, sketch_in};
 
@@ -13,7 +13,7 @@ use crate::scenery::{
 use crate::strips::push_strips;
 use report_read::Event;
 use std::alloc::{AllocError as OutOfMemory, Global};
-use view_journal::{Column, Item, Window, columns, shown_bars};
+use view_journal::{Bar, Column, Item, Window, columns, shown_bars};
 
 /// The parts of which a drawing is made.
 #[derive(Drop)]
@@ -34,18 +34,32 @@ pub fn draft(alloc: Global, windows: &[Window], journal: &[Event]) -> Result<Ske
 {
     let columns = columns(alloc, windows, journal)?;
     let bars = shown_bars(alloc, windows, journal)?;
+    sketch_by(alloc, columns, &bars, journal.len() as u64)
+}
+
+// The parts, by the columns and the bars of a journal of so many events.
+fn sketch_by(
+    alloc: Global,
+    columns: Vec<Column>,
+    bars: &[Bar],
+    events: u64,
+) -> Result<Sketch, OutOfMemory>
+    requires columns { length columns.items ≤ 1000 }
+    requires bars { length bars.now ≤ 240 }
+    ensures { IfOk result (λ s. sketch_in s ≡ spec.sketch_by columns.items bars.now events) }
+{
     let flags = flags(alloc, &columns)?;
     let tasks = tasks(alloc, &columns)?;
     let mut lanes = Vec::new(alloc);
     let mut seats = Vec::new(alloc);
-    let bottom = push_lanes(alloc, &mut lanes, &mut seats, &bars, &tasks)?;
+    let bottom = push_lanes(alloc, &mut lanes, &mut seats, bars, &tasks)?;
     Ok(Sketch {
         columns,
         flags,
         lanes,
         seats,
         bottom,
-        events: journal.len() as u64,
+        events,
     })
 }
 

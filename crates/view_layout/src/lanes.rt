@@ -1,6 +1,8 @@
 // The lanes of tasks: which, and where their bars stand.
 
 ghost use Rattle.std.specs.Prelude.{◌≡◌, ◌≤◌, ◌<◌, ◌+◌, ◌*◌, ◌++◌, length, All, IfOk, OnOk};
+ghost use Rattle.view_journal.specs.Bars.{extents};
+ghost use Rattle.view_journal.specs.Frame.{rows};
 ghost use Rattle.view_layout.specs.Lanes as spec;
 
 use report_read::{Deed, Event};
@@ -127,10 +129,19 @@ fn push_seats(
     ensures small { IfOk result (λ h. h ≤ 5500) }
 {
     let own = own(alloc, task, bars)?;
-    let extents = extents(alloc, &own)?;
-    let rows = rows(alloc, &extents)?;
+    let rows = rows_of(alloc, &own)?;
     push_rows(seats, top, &own, &rows)?;
     Ok(height_of(&rows))
+}
+
+// The rows in which these bars stand.
+fn rows_of(alloc: Global, bars: &[Bar]) -> Result<Vec<usize>, OutOfMemory>
+    ensures is { IfOk result (λ v. v.items ≡ rows (extents bars.now)) }
+    ensures each { IfOk result (λ v. length v.items ≡ length bars.now) }
+    ensures small { IfOk result (λ v. All (λ r. r < length bars.now) v.items) }
+{
+    let extents = extents(alloc, bars)?;
+    rows(alloc, &extents)
 }
 
 fn push_rows(
