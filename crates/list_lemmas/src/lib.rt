@@ -1,2 +1,2 @@
-//! Lemmas on lists alone, for the crates of laws.
+//! Lemmas on lists alone.
 #![tactic(auto)]
