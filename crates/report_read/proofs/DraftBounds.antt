@@ -245,7 +245,7 @@ event : (n total : ℕ) (d : Draft) (left : ℕ) (line : Span) (ws : Words)
 event n total d left line ws room on =
     bind (Bounded n total) (event_of (length d.events) line ws) (λ e. draft.event_at left e d)
     (λ e. if_some (Bounded n total) (draft.fits (length d.entries) d.events e)
-    (draft.events_left (left - 1) (record d { events = d.events ++ e ∷ [] }))
+    (draft.event_taken left e d)
     (events_on n total (record d { events = d.events ++ e ∷ [] }) (left - 1)
     (with_one n total d e room on)))
 

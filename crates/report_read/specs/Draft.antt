@@ -239,8 +239,7 @@ event_taken left e d = events_left (left - 1) (record d { events = d.events ++ e
 
 abbrev pub event_at : ℕ → Event → Draft → Option Draft
 event_at left e d =
-    if fits (length d.entries) d.events e
-    then Some (events_left (left - 1) (record d { events = d.events ++ e ∷ [] })) else None
+    if fits (length d.entries) d.events e then Some (event_taken left e d) else None
 
 abbrev pub with_event : ℕ → Span → Words → Draft → Option Draft
 with_event left line ws d = event_of (length d.events) line ws >>= λ e. event_at left e d
