@@ -28,24 +28,51 @@ use Rattle.task_steps.proofs.Looks.{at_index}
 use Rattle.task_steps.specs.Acting.{WorldInodeDid, told_in}
 use Rattle.task_steps.specs.Checking.{IsChecked, check_by}
 use Rattle.task_steps.specs.declared.answers.StepResult.{StepResult}
-use Rattle.world_locks.proofs.Lists.{book_still, rules_still}
+use Rattle.world_locks.proofs.Lists.{book_still}
 use Rattle.world_locks.proofs.WorldInodes.{world_inode_looked, world_inode_still}
-use Rattle.world_locks.specs.Tagged.{AskMet}
-
--- a look of a pass at the appended rules, which leaves the rules as they were
-pub record LooksAt (rules rules2 : PolicyValue) (q q2 : Passed RuleEntry) : Type 0 where
-  pub base : rules2.base ≡ rules.base
-  pub list : IsSameList rules.appended rules2.appended
-  pub before : IsPrefix q.seen rules.appended.list
-  pub seen : q2.seen ≡ rules2.appended.list
-  pub mine : q2.mine ≡ q.mine
-  pub same : (q2.name ≡ q.name) × (q2.number ≡ q.number)
+use Rattle.world_locks.specs.Tagged.{AskMet, LooksAt}
 
 -- after a look the pass has seen at least as much as before
 looks_more : (rules rules2 : PolicyValue) (q q2 : Passed RuleEntry) → LooksAt rules rules2 q q2
     → IsPrefix q.seen q2.seen
 looks_more rules rules2 q q2 x =
     subst (λ (xs : List RuleEntry). IsPrefix q.seen xs) (sym (x.seen ∙ x.list.list)) x.before
+
+-- ---- two looks, one after the other
+
+module _ (rules between rules2 : PolicyValue) (first first2 second second2 : Passed RuleEntry)
+    (one : LooksAt rules between first first2) (other : LooksAt between rules2 second second2) where
+  same : IsSameList rules.appended rules2.appended
+  same = record {
+    name = other.list.name ∙ one.list.name;
+    callers = other.list.callers ∙ one.list.callers;
+    list = other.list.list ∙ one.list.list;
+    numbers = other.list.numbers ∙ one.list.numbers;
+  }
+
+  -- the first is one at the rules as the second leaves them
+  pub looks_first : LooksAt rules rules2 first first2
+  looks_first = record {
+    base = other.base ∙ one.base;
+    list = same;
+    before = one.before;
+    seen = one.seen ∙ sym other.list.list;
+    mine = one.mine;
+    same = one.same;
+  }
+
+  -- the second is one at the rules as they were before the first
+  pub looks_second : LooksAt rules rules2 second second2
+  looks_second = record {
+    base = other.base ∙ one.base;
+    list = same;
+    before = subst (λ (xs : List RuleEntry). IsPrefix second.seen xs) one.list.list other.before;
+    seen = other.seen;
+    mine = other.mine;
+    same = other.same;
+  }
+
+-- ---- a check
 
 -- the file system that was read at a place is the one of that number
 super_is : (supers : List Super) (k : ℕ) (x : Super) → k < length supers → x ≡ get_or supers k x
@@ -55,9 +82,9 @@ super_is supers k x l e =
 
 module _ {E : Type 0} (consts : WorldConsts) (i : ℕ) (st st2 : WorldInodeValue)
     (is : IsWorldInode consts i st)
-    (rules between rules2 : PolicyValue) (are : AreRulesOf consts rules)
-    (q own own2 : Passed RuleEntry) (first : LooksAt rules between st.rules q)
-    (second : LooksAt between rules2 own own2) (supers : List Super)
+    (rules rules2 : PolicyValue) (kept : AreRulesOf consts rules2)
+    (q own own2 : Passed RuleEntry) (first : LooksAt rules rules2 st.rules q)
+    (second : LooksAt rules rules2 own own2) (supers : List Super)
     (supers_are : supers ≡ consts.supers) (place : Super) (within : st.place < length supers)
     (place_is : place ≡ get_or supers st.place place) (index : List RuleValue)
     (index_is : index ≡ in_force rules2) (book book2 : Grown Entry) (pass pass2 : Passed Event)
@@ -75,23 +102,15 @@ module _ {E : Type 0} (consts : WorldConsts) (i : ℕ) (st st2 : WorldInodeValue
 
   is1 : IsWorldInode consts i st1
   is1 = world_inode_looked consts i st is q first.same first.mine
-      (looks_more rules between st.rules q first)
-
-  pub rules_kept : AreRulesOf consts rules2
-  rules_kept =
-      rules_still consts between rules2 second.base second.list
-      (rules_still consts rules between first.base first.list are)
-
-  seen : q.seen ≡ rules2.appended.list
-  seen = first.seen ∙ sym second.list.list
+      (looks_more rules rules2 st.rules q first)
 
   -- the check counts all rules that the inode's pass has seen
   counts : CountsAll (length consts.base + length q.seen)
       (check_by index cred place (metadata (newest_first st.cell.list)) asked)
   counts =
       ap length index_is ∙ force_count rules2
-      ∙ ap (λ (xs : List RuleEntry). length rules2.base + length xs) (sym seen)
-      ∙ ap (λ (xs : List RuleValue). length xs + length q.seen) rules_kept.base
+      ∙ ap (λ (xs : List RuleEntry). length rules2.base + length xs) (sym first.seen)
+      ∙ ap (λ (xs : List RuleValue). length xs + length q.seen) kept.base
 
   pub asked_world_inode : IsWorldInode consts i st2
   asked_world_inode =
@@ -109,7 +128,7 @@ module _ {E : Type 0} (consts : WorldConsts) (i : ℕ) (st st2 : WorldInodeValue
   all_rules : index ≡ rules_with (scene_of consts []) rules2.appended.list
   all_rules =
       index_is
-      ∙ ap (λ (xs : List RuleValue). xs ++ rules_in rules2.appended.list) rules_kept.base
+      ∙ ap (λ (xs : List RuleValue). xs ++ rules_in rules2.appended.list) kept.base
 
   its_super : place ≡ super_at consts st.place
   its_super =
@@ -139,6 +158,6 @@ module _ {E : Type 0} (consts : WorldConsts) (i : ℕ) (st st2 : WorldInodeValue
       number = second.same.1;
       mine = second.mine ∙ sym (append-nil own.mine);
     };
-    before = looks_more between rules2 own own2 second;
+    before = looks_more rules rules2 own own2 second;
     seen = second.seen;
   }

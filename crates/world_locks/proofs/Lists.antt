@@ -1,6 +1,6 @@
 -- The measurement list and the rules under their locks belong to the constants after each step.
 use Rattle.std.proofs.Common.{◌≡◌, ℕ, List, [], ◌∷◌, ◌++◌, map, Option, Some, None, refl, sym, ◌∙◌, ap}
-use Rattle.std.specs.Prelude.{slice_get}
+use Rattle.std.specs.Prelude.{OnErr, OnOk, Result, Ok, Err, slice_get}
 use Rattle.std.proofs.lemmas.List.{map-append}
 use Rattle.grow_list.specs.Shown.{Grown, IsSameList, Passed}
 use Rattle.ima_templates.specs.Same.{add, add_by, place_of_same}
@@ -80,3 +80,17 @@ rules_more consts rules rules2 e n kept list numbers by is = record {
       ∙ sym (map-append (λ (r : RuleEntry). r.who.task) rules.appended.list (e ∷ []))
       ∙ ap (λ (xs : List RuleEntry). map (λ (r : RuleEntry). r.who.task) xs) (sym list);
 }
+
+-- whether or not the rule was appended, the rules belong to the constants
+pub rules_appended : {A E : Type 0} (Q : Type 0) (consts : WorldConsts)
+    (rules rules2 : PolicyValue) (e : RuleEntry) (n : ℕ) (r : Result A E)
+    → (rules2.base ≡ rules.base) × (rules2.appended.name ≡ rules.appended.name)
+    × (rules2.appended.callers ≡ rules.appended.callers)
+    → OnOk r (rules2.appended.list ≡ rules.appended.list ++ e ∷ [])
+    → OnOk r (rules2.appended.numbers ≡ rules.appended.numbers ++ n ∷ [])
+    → OnErr r (IsSameList rules.appended rules2.appended × Q) → n ≡ e.who.task
+    → AreRulesOf consts rules → AreRulesOf consts rules2
+rules_appended Q consts rules rules2 e n (Ok a) kept list numbers same by is =
+    rules_more consts rules rules2 e n kept list numbers by is
+rules_appended Q consts rules rules2 e n (Err x) kept list numbers same by is =
+    rules_still consts rules rules2 kept.0 same.0 is

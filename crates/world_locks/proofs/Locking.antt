@@ -25,6 +25,14 @@ last_is consts all left s e each =
     each (length left) s
     (ap (λ (xs : List WorldInodeValue). slice_get xs (length left)) e ∙ get_last left s)
 
+-- of no inodes each is the one of its number
+pub each_none : (consts : WorldConsts) (world_inodes : List WorldInodeValue) → world_inodes ≡ []
+    → AreEach consts world_inodes
+each_none consts world_inodes e i s at =
+    let none : slice_get [] i ≡ Some s =
+    ap (λ (xs : List WorldInodeValue). slice_get xs i) (sym e) ∙ at in
+    absurd (cc)
+
 -- with the next inode added, each is still the one of its number
 pub each_more : (consts : WorldConsts) (world_inodes all : List WorldInodeValue) (n : ℕ)
     (s : WorldInodeValue)

@@ -1,6 +1,6 @@
 -- The passes of a task, unpacked for a step under locks.
 use Rattle.std.proofs.Common.{◌≡◌, ℕ, ◌+◌, ◌<◌, List, length, get_or, Option, Some, refl, sym, ◌∙◌, ap, subst, arith}
-use Rattle.std.specs.Prelude.{IfOk, Result, Ok, Err, slice_get, slice_set}
+use Rattle.std.specs.Prelude.{IfOk, OnErr, Result, Ok, Err, slice_get, slice_set}
 use Rattle.grow_list.specs.Shown.{Passed}
 use Rattle.ima_templates.specs.declared.entry.Entry.{Entry}
 use Rattle.inode_meta.specs.declared.appraisal.Slot.{Slot}
@@ -36,6 +36,12 @@ module _ (inodes : List (Passed Event)) (sems : Passed Event) (book : Passed Ent
   abbrev opened : PassesValue
   opened = record { inodes = inodes; sems = sems; book = book; rules = rules }
 
+  -- the unpacked passes are the task's
+  pub are_opened : (consts : WorldConsts) → ArePassesOf consts who.task p
+      → ArePassesOf consts who.task opened
+  are_opened consts are =
+      subst (λ (x : PassesValue). ArePassesOf consts who.task x) (sym view) are
+
   -- a post or a wait by the pass of the semaphores
   pub signals_opened : {E : Type 0} (sems2 : Passed Event) (d : Deed)
       (r : Result (Option StepResult) E) → SignalMet sems sems2 who d r
@@ -52,6 +58,14 @@ module _ (inodes : List (Passed Event)) (sems : Passed Event) (book : Passed Ent
       subst (λ (x : PassesValue). AppendsMet x (record opened { rules = rules2 }) entry a) view
       (appends_met opened (record opened { rules = rules2 }) entry a refl m)
   appends_opened rules2 entry (Err e) m = tt
+
+  -- without an answer the pass of the rules is as it was, as are the others
+  pub append_kept : {E : Type 0} (rules2 : Passed RuleEntry) (r : Result StepResult E)
+      → OnErr r (rules2 ≡ rules)
+      → OnErr r (◌≡◌ {A = PassesValue} (record opened { rules = rules2 }) p)
+  append_kept rules2 (Ok a) same = tt
+  append_kept rules2 (Err e) same =
+      ap (λ (q : Passed RuleEntry). record opened { rules = q }) same ∙ view
 
   -- ---- on the inode of a number, which is there
 

@@ -1,7 +1,8 @@
 -- A post, a wait or an appended rule under its lock, from the view of its task.
-use Rattle.std.proofs.Common.{◌≡◌, ℕ, List, ◌++◌, length, Option, Some, None, refl, sym, ◌∙◌, ap, subst}
-use Rattle.std.specs.Prelude.{IfSome, Result, Ok, Err, option_map}
+use Rattle.std.proofs.Common.{◌≡◌, ℕ, List, [], ◌∷◌, ◌++◌, length, Option, Some, None, refl, sym, ◌∙◌, ap, subst}
+use Rattle.std.specs.Prelude.{IfOk, IfSome, OnErr, OnOk, Result, Ok, Err, option_map}
 use Rattle.std.proofs.lemmas.List.{append-nil}
+use mathlib.Core.List.{IsPrefix}
 use Rattle.grow_list.specs.Shown.{Passed}
 use Rattle.inode_meta.specs.declared.step.Who.{Who}
 use Rattle.inode_events.specs.Asked.{entered, made}
@@ -16,7 +17,7 @@ use Rattle.world_close.specs.worlds.Tasks.{PassesValue}
 use Rattle.task_steps.proofs.about_worlds.Eventing.{adds_none}
 use Rattle.task_steps.specs.Acting.{IsPlacedAt, told_of}
 use Rattle.task_steps.specs.declared.answers.StepResult.{StepResult}
-use Rattle.world_locks.specs.Tagged.{AppendMet, SignalMet, signalled_at}
+use Rattle.world_locks.specs.Tagged.{AppendMet, SignalMet, appended_in, signalled_at}
 use Rattle.world_locks.specs.Met.{AppendsMet, SignalsMet, state_seen}
 
 -- when memory runs out, the pass is as it was
@@ -69,6 +70,35 @@ signal_met {E} pass pass2 who d journal place o is says at seen mine same =
             (placed_signalled place (length journal) at),
       );
     }
+
+-- if memory suffices, the rule was appended after those that the pass has then seen
+pub append_met : {A E : Type 0} (pass pass2 : Passed RuleEntry) (entry : RuleEntry)
+    (list list2 : List RuleEntry) (place : ℕ) (r : Result A E) (o : Result StepResult E)
+    → o ≡ appended_in place r → place ≡ length list → OnOk r (IsPrefix pass.seen list)
+    → OnOk r (pass2.seen ≡ list2) → OnOk r (list2 ≡ list ++ entry ∷ [])
+    → OnOk r (pass2.mine ≡ pass.mine ++ (length list, entry) ∷ [])
+    → (pass2.name ≡ pass.name) × (pass2.number ≡ pass.number)
+    → IfOk o (λ a. AppendMet pass pass2 entry a)
+append_met {E} pass pass2 entry list list2 place (Ok x) o is at before seen more mine same =
+    subst (λ (y : Result StepResult E). IfOk y (λ a. AppendMet pass pass2 entry a)) (sym is)
+    (record {
+      added = list;
+      before = before;
+      seen = seen ∙ more;
+      adds = record { name = same.0; number = same.1; mine = mine };
+      told = (at, refl, refl);
+    })
+append_met {E} pass pass2 entry list list2 place (Err x) o is at before seen more mine same =
+    subst (λ (y : Result StepResult E). IfOk y (λ a. AppendMet pass pass2 entry a)) (sym is) tt
+
+-- without an answer all is as it was
+pub append_fails : {A E : Type 0} (P Q : Type 0) (place : ℕ) (r : Result A E)
+    (o : Result StepResult E)
+    → o ≡ appended_in place r → OnErr r (P × Q) → OnErr o Q
+append_fails {E} P Q place (Ok x) o is same =
+    subst (λ (y : Result StepResult E). OnErr y Q) (sym is) tt
+append_fails {E} P Q place (Err x) o is same =
+    subst (λ (y : Result StepResult E). OnErr y Q) (sym is) same.1
 
 -- the task's passes have seen the journal of the semaphores as the post or wait left it
 pub signals_met : {E : Type 0} (passes passes2 : PassesValue) (who : Who) (d : Deed)

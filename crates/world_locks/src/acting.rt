@@ -158,6 +158,27 @@ impl<N: Name> Locks<N> {
         if i as usize >= self.world_inodes.len() {
             return Ok(None);
         }
+        self.check_locked(rt, i, passes, actor, asked)
+    }
+
+    // Checks an inode that is there, under its lock and those of the rules and the measurement
+    // list.
+    fn check_locked<R: Wait>(
+        &self,
+        rt: &R,
+        i: u32,
+        passes: &mut Passes,
+        actor: &Actor<'_>,
+        asked: Checks,
+    ) -> Result<Option<StepResult>, OutOfMemory>
+        requires below { i < length N.consts.each_inode }
+        requires passes { ArePassesOf N.consts actor.now.who.task passes.old }
+        requires ready { (g : AnyHashState) → ReadyAt N.consts i passes.old.inodes
+            actor.now.who.task g actor.now.action actor.now.slot
+            (Deed.Check asked.file asked.func no_action 0) }
+        ensures { CheckMet N.consts i actor.now.who actor.now.cred.now asked passes.old passes.new
+            result }
+    {
         let mut order = Order::new();
         let mut inode = self.take(rt, &mut order, i);
         let mut rules = self.take_rules(rt, &mut order);

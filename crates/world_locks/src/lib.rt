@@ -15,6 +15,7 @@ mod order;
 mod pages;
 mod sharing;
 mod tagged;
+mod tagged_rules;
 mod world_inode;
 
 pub use locks::Locks;

@@ -1,6 +1,6 @@
 //! The locks of a world: putting its lists under locks, and taking them out again.
 
-ghost use Rattle.std.specs.Prelude.{◌≡◌, ◌<◌, IfOk, length};
+ghost use Rattle.std.specs.Prelude.{◌≡◌, ◌<◌, [], IfOk, OnOk, length};
 ghost use Rattle.std.specs.Sync.Mutex.{mutex_guard_value};
 ghost use Rattle.world_close.specs.worlds.World.{IsWorldInode};
 ghost use Rattle.world_close.specs.Closed.{AreWorldInodes};
@@ -8,7 +8,8 @@ ghost use Rattle.world_close.specs.Parts.{KeepConsts, consts_of_parts};
 
 use crate::name::Name;
 use crate::order::Order;
-use crate::tagged::{TaggedBook, TaggedRules, TaggedSemaphores};
+use crate::tagged::{TaggedBook, TaggedSemaphores};
+use crate::tagged_rules::TaggedRules;
 use crate::world_inode::TaggedWorldInode;
 use inode_events::Settings;
 use inode_meta::Mode;
@@ -89,18 +90,18 @@ fn unlock_at<N: Name>(
 
 // Takes the inodes out of their locks, in order.
 fn unlock_each<N: Name>(
-    alloc: Global,
     locked: Vec<Mutex<TaggedWorldInode<N>>>,
-) -> Result<Vec<WorldInode>, OutOfMemory>
-    requires { length locked.items ≡ length N.consts.each_inode }
-    ensures { IfOk result (λ world_inodes. AreWorldInodes N.consts world_inodes.items) }
+    world_inodes: &mut Vec<WorldInode>,
+) -> Result<(), OutOfMemory>
+    requires count { length locked.items ≡ length N.consts.each_inode }
+    requires none { world_inodes.old.items ≡ [] }
+    ensures { OnOk result (AreWorldInodes N.consts world_inodes.new.items) }
 {
-    let mut world_inodes = Vec::new(alloc);
     for mutex in locked {
         let world_inode = unlock_at(world_inodes.len(), mutex)?;
         world_inodes.push(world_inode)?;
     }
-    Ok(world_inodes)
+    Ok(())
 }
 
 impl<N: Name> Locks<N> {
@@ -148,12 +149,11 @@ impl<N: Name> Locks<N> {
             tasks,
             alloc,
         } = self;
-        let world_inodes = unlock_each(alloc, world_inodes)?;
         let book = book.into_inner().open();
         let sems = sems.into_inner().open();
         let (rules, spares) = rules.into_inner().open();
-        Ok(Parts {
-            world_inodes,
+        let mut parts = Parts {
+            world_inodes: Vec::new(alloc),
             book,
             sems,
             rules,
@@ -162,7 +162,9 @@ impl<N: Name> Locks<N> {
             settings,
             tasks,
             alloc,
-        })
+        };
+        unlock_each(world_inodes, &mut parts.world_inodes)?;
+        Ok(parts)
     }
 
     /// The appraisal mode in the world's settings.

@@ -1,18 +1,16 @@
-//! The measurement list, the semaphores and the rules, each with the invariant that it belongs to
-//! the constants that `N` names.
+//! The measurement list and the semaphores, each with the invariant that it belongs to the constants
+//! that `N` names.
 
-ghost use Rattle.std.specs.Prelude.{◌≡◌, ◌+◌, IfOk, OnErr};
+ghost use Rattle.std.specs.Prelude.{◌≡◌, ◌+◌};
 ghost use Rattle.world_close.specs.worlds.World.{AreSignalsOf, IsBookOf};
-ghost use Rattle.world_locks.specs.Tagged.{AppendMet, RulesKeep, SignalMet, signalled_at};
+ghost use Rattle.world_locks.specs.Tagged.{SignalMet, signalled_at};
 
 use crate::name::Name;
 use grow_list::Pass;
 use inode_events::{Deed, Event, Told};
 use inode_meta::Who;
 use measure_book::Book;
-use policy_cell::{PolicyCell, RuleEntry};
-use policy_rules::Rule;
-use std::alloc::{AllocError as OutOfMemory, Global};
+use std::alloc::AllocError as OutOfMemory;
 use std::marker::{Model, PhantomData};
 use task_steps::StepResult;
 use world_close::semaphores::SemaphoreCell;
@@ -137,85 +135,5 @@ fn signalled(place: Option<u64>) -> Option<StepResult>
             action: None,
         }),
         None => None,
-    }
-}
-
-/// The rules and their spare passes, with the invariant that they belong to the constants that `N`
-/// names.
-pub struct TaggedRules<N: Name> {
-    pub(crate) rules: PolicyCell,
-    spares: Vec<Pass<RuleEntry>>,
-    of: PhantomData<N>,
-}
-
-// Written out, so that the drop is proved here once, and not again in each crate above.
-impl<N: Name> Drop for TaggedRules<N> {
-    fn drop(self) {
-        let TaggedRules {
-            rules: _,
-            spares: _,
-            of: _,
-        } = self;
-    }
-}
-
-impl<N: Name> Model for TaggedRules<N> {
-    ghost use Rattle.policy_cell.specs.Policy.{PolicyValue};
-    ghost use Rattle.world_locks.specs.Tagged.{RulesKeep};
-
-    ghost Value = { PolicyValue };
-
-    ghost view = { λ r. r.rules };
-
-    ghost invariant = { λ r. RulesKeep N.consts r.rules r.spares.items };
-}
-
-impl<N: Name> TaggedRules<N> {
-    /// Wraps the rules of these constants, and their spare passes.
-    pub fn new(rules: PolicyCell, spares: Vec<Pass<RuleEntry>>) -> TaggedRules<N>
-        requires { RulesKeep N.consts rules spares.items }
-        ensures { result ≡ rules }
-    {
-        TaggedRules {
-            rules,
-            spares,
-            of: PhantomData,
-        }
-    }
-
-    /// Returns the rules and their spare passes.
-    pub fn open(self) -> (PolicyCell, Vec<Pass<RuleEntry>>)
-        ensures kept { RulesKeep N.consts result.0 result.1.items }
-        ensures value { result.0 ≡ self }
-    {
-        let TaggedRules {
-            rules,
-            spares,
-            of: _,
-        } = self;
-        (rules, spares)
-    }
-
-    /// Appends a copy of the rule to those in force.
-    pub fn append(
-        &mut self,
-        alloc: Global,
-        pass: &mut Pass<RuleEntry>,
-        who: Who,
-        rule: &Rule,
-    ) -> Result<StepResult, OutOfMemory>
-        requires name { pass.old.name ≡ N.consts.rules }
-        requires number { pass.old.number ≡ who.task }
-        ensures met { IfOk result (λ a. AppendMet pass.old pass.new
-            (record { who = who; rule = rule.now }) a) }
-        ensures err { OnErr result (pass.new ≡ pass.old) }
-    {
-        let place = self.rules.appended();
-        self.rules.append(alloc, pass, who, rule)?;
-        Ok(StepResult {
-            place,
-            told: Told::Done,
-            action: None,
-        })
     }
 }

@@ -14,7 +14,8 @@ ghost use Rattle.world_locks.specs.Pages.{IsPageDeed, MayByLook, PageMet};
 
 use crate::name::Name;
 use crate::pages::{TakenPage, take_page, taken_at};
-use crate::tagged::{TaggedBook, TaggedRules};
+use crate::tagged::TaggedBook;
+use crate::tagged_rules::TaggedRules;
 use grow_list::Pass;
 use ima_templates::Entry;
 use inode_events::Event;
@@ -184,8 +185,7 @@ impl<N: Name> TaggedWorldInode<N> {
             listed.new actor.now.who actor.now.cred.now asked result }
     {
         let world_inode = &mut self.world_inode;
-        rules.rules.look(&mut world_inode.rules);
-        rules.rules.look(own);
+        rules.look_by_both(&mut world_inode.rules, own);
         let place = &supers[world_inode.place as usize];
         check_at(
             world_inode,
@@ -194,7 +194,7 @@ impl<N: Name> TaggedWorldInode<N> {
             listed,
             actor,
             asked,
-            rules.rules.rules(),
+            rules.in_force(),
             place,
         )
     }

@@ -2,7 +2,7 @@
 use Rattle.std.proofs.Common.{ap, arith, length, length-append}
 use Rattle.std.proofs.lemmas.List.{length_push}
 use Rattle.std.proofs.lemmas.Result.{err_from_is_err_and}
-use Rattle.world_locks.proofs.Locking.{each_more}
+use Rattle.world_locks.proofs.Locking.{each_more, each_none}
 use Rattle.world_locks.proofs.locks.unlock_each.Goals as goal
 
 pub returns-in_err-world_inode : goal.returns-in_err-world_inode
@@ -15,6 +15,12 @@ returns-in_err-push g c =
     let p = err_from_is_err_and c.from_residual-in_err-push.result
     c.from_residual-in_err-push.ensures.1 in
     rw (p.1) tt
+
+pub loop-mutex-init : goal.loop-mutex-init
+loop-mutex-init g c = record {
+  all = ap length c.requires.none;
+  each = each_none g.N.Name.consts c.args.world_inodes.now.items c.requires.none;
+}
 
 pub loop-mutex-preserved : goal.loop-mutex-preserved
 loop-mutex-preserved g c = record {

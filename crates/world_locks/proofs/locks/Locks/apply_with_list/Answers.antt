@@ -1,7 +1,7 @@
 -- A deed on the inode whose lock is held.
 use Rattle.std.proofs.Common.{◌≡◌, ◌∙◌, ap}
 use Rattle.task_state.specs.Steps.{deed_in}
-use Rattle.world_locks.proofs.Opening.{deed_opened, pass_of, ready_of}
+use Rattle.world_locks.proofs.Opening.{are_opened, deed_opened, pass_of, ready_of}
 use Rattle.world_locks.specs.Tagged.{NumberedWorldInode}
 use Rattle.world_locks.proofs.locks.Locks.apply_with_list.Goals as goal
 
@@ -15,6 +15,12 @@ apply-requires-clause-pass g c κs within =
     c.args.actor.now.who g.N.Name.consts c.requires.passes c.args.i
     c.deref_mut.result.now.number taken c.requires.below c.index_mut.result.now
     c.index_mut.ensures.value
+
+pub apply-requires-clause-listed : goal.apply-requires-clause-listed
+apply-requires-clause-listed g c κs within =
+    let p = c.passes.inside in
+    (are_opened p.inodes.items p.sems p.book p.rules c.args.passes.now c.passes.view_is
+    c.args.actor.now.who g.N.Name.consts c.requires.passes).book.0
 
 pub apply-requires-clause-ready : goal.apply-requires-clause-ready
 apply-requires-clause-ready g c κs within =
