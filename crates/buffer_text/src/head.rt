@@ -1,6 +1,8 @@
 ghost use Rattle.std.specs.Prelude.{◌≡◌};
 ghost use Rattle.buffer_text.specs.Heads.{head_of, rank, repeats};
 
+use call_lines::look_up;
+
 /// The kind of a line of a text of buffers, by its first word.
 #[derive(Clone, Copy)]
 pub enum BufferHead {
@@ -12,25 +14,21 @@ pub enum BufferHead {
     Threads,
 }
 
+// The kinds of lines by their first words.
+const HEADS: [(&[u8], BufferHead); 6] = [
+    (b"imabuffers", BufferHead::Imabuffers),
+    (b"hash", BufferHead::Hash),
+    (b"rule", BufferHead::Rule),
+    (b"caller", BufferHead::Caller),
+    (b"critical", BufferHead::Critical),
+    (b"threads", BufferHead::Threads),
+];
+
 /// The line's kind, by its first word.
 pub fn head_of(word: &[u8]) -> Option<BufferHead>
     ensures { result ≡ head_of word.now }
 {
-    if word == b"imabuffers".as_slice() {
-        Some(BufferHead::Imabuffers)
-    } else if word == b"hash".as_slice() {
-        Some(BufferHead::Hash)
-    } else if word == b"rule".as_slice() {
-        Some(BufferHead::Rule)
-    } else if word == b"caller".as_slice() {
-        Some(BufferHead::Caller)
-    } else if word == b"critical".as_slice() {
-        Some(BufferHead::Critical)
-    } else if word == b"threads".as_slice() {
-        Some(BufferHead::Threads)
-    } else {
-        None
-    }
+    look_up(&HEADS, word)
 }
 
 impl BufferHead {

@@ -1,9 +1,11 @@
 //! The lines of a text of buffers.
 
-ghost use Rattle.std.specs.Prelude.{◌≡◌, OnOk, length, map};
+ghost use Rattle.std.specs.Prelude.{◌≡◌, Some, IfOk, OnOk, length, map};
 ghost use Rattle.std.specs.Option.{option_copied};
 ghost use Rattle.script_text.specs.script_lines.Gives.{LineMakes};
+ghost use Rattle.script_text.specs.script_lines.Value.{value_of};
 ghost use Rattle.script_text.specs.Draft.{change_last};
+ghost use Rattle.script_text.specs.Limits.{most_value};
 ghost use Rattle.buffer_text.specs.Grammar.{caller_of, with_caller, with_cred, with_critical, with_hash, with_line, with_rule, with_threads, with_version};
 ghost use Rattle.buffer_text.specs.Text.{caller_with};
 
@@ -97,9 +99,8 @@ impl Draft {
         }
         let bytes = value_of(alloc, value, 0, VALUE)?;
         let len = bytes.as_slice().len();
-        let bytes = BufferBytes::of_word(alloc, value, bytes)?;
-        let name = Bytes::from_slice(alloc, name)?;
-        self.with_line((name, bytes), len)
+        let line = line_of(alloc, name, value, bytes)?;
+        self.with_line(line, len)
     }
 
     #[tactic(auto, unfolding(crate::specs::Grammar::with_line))]
@@ -139,6 +140,21 @@ fn caller_of(fields: &[&[u8]]) -> Option<Cred>
     } else {
         None
     }
+}
+
+// The buffer of this name, with the bytes that the word gives.
+fn line_of(
+    alloc: Global,
+    name: &[u8],
+    word: &[u8],
+    bytes: Bytes,
+) -> Result<(Bytes, BufferBytes), OutOfMemory>
+    requires { value_of 0 most_value word.now ≡ Some bytes }
+    ensures { IfOk result (λ line. line ≡ (name.now, bytes)) }
+{
+    let name = Bytes::from_slice(alloc, name)?;
+    let bytes = BufferBytes::of_word(alloc, word, bytes)?;
+    Ok((name, bytes))
 }
 
 // Appends a buffer to those of the last caller.

@@ -68,15 +68,26 @@ impl BufferCaller {
     pub fn copy(&self, alloc: Global) -> Result<BufferCaller, OutOfMemory>
         ensures { IfOk result (λ copy. copy ≡ self.now) }
     {
-        let mut lines = Vec::with_capacity(alloc, self.lines.len())?;
-        for line in self.lines.iter() {
-            lines.push(copy_of(alloc, line)?)?;
-        }
+        let lines = copies_of_lines(alloc, self.lines.as_slice())?;
         Ok(BufferCaller {
             cred: self.cred,
             lines,
         })
     }
+}
+
+// Copies of buffers, in their own memory.
+fn copies_of_lines(
+    alloc: Global,
+    lines: &[(Bytes, BufferBytes)],
+) -> Result<Vec<(Bytes, BufferBytes)>, OutOfMemory>
+    ensures { IfOk result (λ copies. copies.items ≡ lines.now) }
+{
+    let mut copies = Vec::with_capacity(alloc, lines.len())?;
+    for line in lines {
+        copies.push(copy_of(alloc, line)?)?;
+    }
+    Ok(copies)
 }
 
 // A copy of a buffer, in its own memory.
@@ -157,15 +168,27 @@ impl BufferText {
     pub fn copy(&self, alloc: Global) -> Result<BufferText, OutOfMemory>
         ensures { IfOk result (λ copy. copy ≡ self.now) }
     {
-        let mut callers = Vec::with_capacity(alloc, self.callers.len())?;
-        for caller in self.callers.iter() {
-            callers.push(caller.copy(alloc)?)?;
-        }
+        let rules = self.rules.copy()?;
+        let callers = copies_of_callers(alloc, self.callers.as_slice())?;
         Ok(BufferText {
             hash: self.hash,
-            rules: self.rules.copy()?,
+            rules,
             callers,
             threads: self.threads,
         })
     }
+}
+
+// Copies of callers, in their own memory.
+fn copies_of_callers(
+    alloc: Global,
+    callers: &[BufferCaller],
+) -> Result<Vec<BufferCaller>, OutOfMemory>
+    ensures { IfOk result (λ copies. copies.items ≡ callers.now) }
+{
+    let mut copies = Vec::with_capacity(alloc, callers.len())?;
+    for caller in callers {
+        copies.push(caller.copy(alloc)?)?;
+    }
+    Ok(copies)
 }
