@@ -1,5 +1,5 @@
 -- The book of a carried list.
-use Rattle.std.proofs.Common.{◌≡◌, ℕ, zero, suc, ◌+◌, ◌-◌, ◌≤◌, Bool, true, false, ◌&&◌, cond, List, [], ◌∷◌, ◌++◌, length, get_or, replicate, Option, None, Some, Ok, Err, refl, sym, ap, subst, ◌∙◌, arith, append_assoc, length-append}
+use Rattle.std.proofs.Common.{◌≡◌, ℕ, zero, suc, ◌+◌, ◌-◌, ◌≤◌, Bool, true, false, ◌&&◌, cond, List, [], ◌∷◌, ◌++◌, length, get_or, replicate, Option, None, Some, Ok, Err, refl, sym, ap, subst, ◌∙◌, arith, append_assoc, append-nil, length-append}
 use Rattle.std.proofs.lemmas.List.{replicate-append-replicate}
 use Rattle.std.proofs.lemmas.List.Elements.{All-cons, All-nil}
 use Rattle.std.proofs.lemmas.Option.{get_or_from_slice_get, none-some, same_Some}
@@ -21,6 +21,15 @@ use Rattle.list_carry.specs.declared.causes.CarryErr.{CarryErr}
 use Rattle.list_carry.specs.declared.causes.CarryErr.TheVariants as err
 
 -- ---- further entries
+
+-- no further entries
+pub Extends-none : (b : Grown Entry) → Extends b b []
+Extends-none b = record {
+  name = refl;
+  callers = refl;
+  list = sym (append-nil b.list);
+  numbers = sym (append-nil b.numbers);
+}
 
 -- further entries after further entries
 pub Extends-append : (a b c : Grown Entry) (xs ys : List Entry) → Extends a b xs → Extends b c ys
@@ -100,13 +109,22 @@ passed true said = refl
 passed false said = absurd (cc said)
 
 -- a test that fails is told as `twice`, or memory ran out
-pub failed : (e : CarryErr) (b whole : Bool) → Loads (Err e) (if_new b)
+failed : (e : CarryErr) (b whole : Bool) → Loads (Err e) (if_new b)
     → (b ≡ false → whole ≡ false)
     → Loads (Err e) (if_new whole)
 failed err.OutOfMemory b whole said f = tt
 failed (err.Refused c) true whole said f = absurd (cc said)
 failed (err.Refused c) false whole said f =
     ap if_new (f refl) ∙ said
+
+-- an entry that isn't added decides the answer to it and the others
+pub refused_entry : (e : CarryErr) (list : List Entry) (x : Entry) (es rest : List Entry)
+    (whole : Bool) → rest ≡ x ∷ es → all_new list rest ≡ whole
+    → Loads (Err e) (if_new (is_none (place_of_same list x))) → Loads (Err e) (if_new whole)
+refused_entry e list x es rest whole rest_is so_far said =
+    failed e (is_none (place_of_same list x)) whole said
+    (λ known. sym so_far ∙ ap (λ (l : List Entry). all_new list l) rest_is
+    ∙ ap (λ (b : Bool). b && all_new (list ++ x ∷ []) es) known)
 
 -- a list whose entries are all new is loaded
 pub whole_list : (first : Entry) (others list : List Entry) → list ≡ first ∷ others

@@ -1,6 +1,6 @@
 -- What is cut off at the front is what was written there.
-use Rattle.std.proofs.Common.{◌≡◌, ℕ, ◌^◌, ◌<◌, ◌≤◌, Bool, true, false, not, cond, List, [], ◌∷◌, ◌++◌, length, take, drop, Option, Some, None, refl, sym, ap, ◌∙◌, arith, append_assoc, length-append, leb, le-leb, leb-true, ltb, ltb-false, length-drop, get_or, add-zero}
-use Rattle.std.proofs.lemmas.List.{drop_at, take_at, length-take-le, get_or-drop, take-append-drop}
+use Rattle.std.proofs.Common.{◌≡◌, ℕ, ◌+◌, ◌-◌, ◌^◌, ◌<◌, ◌≤◌, Bool, true, false, not, cond, List, [], ◌∷◌, ◌++◌, length, take, drop, Option, Some, None, refl, sym, ap, ◌∙◌, arith, append_assoc, length-append, leb, le-leb, leb-true, ltb, ltb-false, length-drop, get_or, add-zero}
+use Rattle.std.proofs.lemmas.List.{drop_at, take_at, length-take-le, get_or-drop, take-append-drop, take_rest}
 use Rattle.std.proofs.lemmas.List.Folds.{length-prefix_len}
 use Rattle.std.proofs.lemmas.List.Sums.{passes_at_first, prefix_len-le-length}
 use Rattle.std.proofs.lemmas.Nat.{le_bytes_4, le_bytes_8}
@@ -40,6 +40,17 @@ pub little_bytes-front_8 : (bytes rest : List ℕ) → length bytes ≡ 8 → Is
 little_bytes-front_8 bytes rest long small =
     ap (little_bytes 8) (little_from-append 8 bytes rest (omega (arith, long)))
     ∙ little_bytes-number_8 bytes long small
+
+-- a number of `size` bytes that begins at a place is within bytes that are as many as it needs
+module _ (place size least : ℕ) (bytes : List ℕ) (long : least ≤ length bytes)
+    (ends : leb (place + size) least ≡ true) where
+  pub number-within : place ≤ length bytes
+  number-within = omega (arith, leb-true (place + size) least ends, long)
+
+  pub number-read : size ≤ length (take (length bytes - place) (drop place bytes))
+  number-read =
+      rw (take_rest bytes place)
+      (omega (arith, leb-true (place + size) least ends, long, length-drop place bytes))
 
 -- ---- the first bytes
 

@@ -1,6 +1,6 @@
 -- Loading what was saved gives the list back, and saving what was loaded gives the bytes back.
 use Rattle.std.proofs.Common.{◌≡◌, ℕ, zero, suc, ◌+◌, ◌-◌, ◌^◌, ◌<◌, ◌≤◌, ◌==◌, Bool, true, false, not, ◌&&◌, cond, List, [], ◌∷◌, ◌++◌, length, get_or, take, drop, Option, None, Some, Result, Ok, Err, refl, sym, ap, subst, ◌∙◌, arith, append_assoc, append-nil, length-append, length-drop, eqb-true, ne_eqb, le-leb, le-ltb, leb, leb-true, lt-ltb, ltb, ltb-false, Fits, slice_index_or, w8}
-use Rattle.std.proofs.lemmas.Bool.{and_from, and_parts, false≢true, not-false, not-true}
+use Rattle.std.proofs.lemmas.Bool.{and_from, and_left, and_parts, and_right, lt-leb, false≢true, not-false, not-true}
 use Rattle.std.proofs.lemmas.List.{take_at, take_more, take_rest, take-take, length-take, length-take-le, drop-drop, take-append-drop}
 use Rattle.std.proofs.lemmas.List.Concat.{flat_map-append}
 use Rattle.std.proofs.lemmas.Option.{none-some, same_Some}
@@ -298,6 +298,61 @@ HasParts-header bytes is =
       some = one_at_least (stated_count bytes) (not-true (stated_count bytes == 0) front.1);
     }
 
+module _ (bytes : List ℕ) where
+  -- fewer bytes than those of a header
+  pub headless-short : length bytes < header_length → false ≡ has_header bytes
+  unfolding has_header
+  headless-short less = sym (and_left _ _ (lt-leb header_length (length bytes) less))
+
+  module _ (m : List ℕ) (same : m ≡ mark) where
+    -- another mark
+    pub headless-unmarked : true ≡ not (bytes_eq (take 4 bytes) m) → false ≡ has_header bytes
+    unfolding has_header
+    headless-unmarked is =
+        let other : bytes_eq (take 4 bytes) mark ≡ false =
+        not-true (bytes_eq (take 4 bytes) mark)
+        (ap (λ (l : List ℕ). not (bytes_eq (take 4 bytes) l)) (sym same) ∙ sym is) in
+        sym (and_right _ _ (and_left _ _ (and_left (bytes_eq (take 4 bytes) mark)
+        (little_number 4 (drop 4 bytes) == 1) other)))
+
+    module _ (long : header_length ≤ length bytes) (is : false ≡ not (bytes_eq (take 4 bytes) m))
+        (version : ℕ)
+        (read : version ≡ little_number 4 (take (length bytes - 4) (drop 4 bytes)))
+      where
+        -- after the mark the version and the number of records decide
+        headed : (little_number 4 (drop 4 bytes) == 1 && not (stated_count bytes == 0))
+            ≡ has_header bytes
+        unfolding has_header
+        headed =
+            let marked : bytes_eq (take 4 bytes) mark ≡ true =
+            not-false (bytes_eq (take 4 bytes) mark)
+            (ap (λ (l : List ℕ). not (bytes_eq (take 4 bytes) l)) (sym same) ∙ sym is) in
+            λ i. sym (le-leb header_length (length bytes) long) i
+            && (sym marked i && little_number 4 (drop 4 bytes) == 1
+            && not (stated_count bytes == 0))
+
+        -- the version that is read
+        version_is : version ≡ little_number 4 (drop 4 bytes)
+        version_is = read ∙ ap (little_number 4) (take_rest bytes 4)
+
+        -- another version
+        pub headless-version : (version ≡ 1 → ⊥) → (version == 1) ≡ has_header bytes
+        headless-version other =
+            let differs : (version == 1) ≡ false = ne_eqb version 1 other in
+            differs
+            ∙ (λ i. sym (ap (λ (n : ℕ). n == 1) (sym version_is) ∙ differs) i
+            && not (stated_count bytes == 0))
+            ∙ headed
+
+        -- this version, and the number of records that is read
+        pub headed-count : (count : ℕ) → version ≡ 1
+            → count ≡ little_number 8 (take (length bytes - 8) (drop 8 bytes))
+            → not (count == 0) ≡ has_header bytes
+        headed-count count one count_is =
+            ap (λ (n : ℕ). not (n == 0)) (count_is ∙ ap (little_number 8) (take_rest bytes 8))
+            ∙ (λ i. (sym one ∙ version_is) i == 1 && not (stated_count bytes == 0))
+            ∙ headed
+
 -- the bytes are a header with what it states, and the bytes after it
 header-then : (bytes : List ℕ) → IsBytes bytes → HasParts bytes
     → bytes ≡ header (stated_count bytes) (stated_length bytes) ++ drop header_length bytes
@@ -391,26 +446,6 @@ not_empty bytes count list small is records =
     )
 
 -- ---- the steps of reading a header
-
--- the numbers of a header are within bytes that are as many as a header has
-module _ (bytes : List ℕ) (long : header_length ≤ length bytes) where
-  pub version-within : 4 ≤ length bytes
-  version-within = omega (arith, long)
-
-  pub version-read : 4 ≤ length (take (length bytes - 4) (drop 4 bytes))
-  version-read = rw (take_rest bytes 4) (omega (arith, long, length-drop 4 bytes))
-
-  pub count-within : 8 ≤ length bytes
-  count-within = omega (arith, long)
-
-  pub count-read : 8 ≤ length (take (length bytes - 8) (drop 8 bytes))
-  count-read = rw (take_rest bytes 8) (omega (arith, long, length-drop 8 bytes))
-
-  pub length-within : 16 ≤ length bytes
-  length-within = omega (arith, long)
-
-  pub length-read : 8 ≤ length (take (length bytes - 16) (drop 16 bytes))
-  length-read = rw (take_rest bytes 16) (omega (arith, long, length-drop 16 bytes))
 
 module _ (bytes : List ℕ) (right : true ≡ has_header bytes) where
   -- a right header is whole

@@ -1,6 +1,7 @@
 -- The records that are read are those that were written.
-use Rattle.std.proofs.Common.{◌≡◌, ℕ, zero, suc, ◌-◌, ◌<◌, ◌≤◌, ◌==◌, Bool, true, false, cond, List, [], ◌∷◌, ◌++◌, length, drop, Option, Some, None, refl, sym, ap, subst, ◌∙◌, arith, append_assoc, append-nil, eqb-true, leb, le-leb}
-use Rattle.std.proofs.lemmas.List.{nil_from_length}
+use Rattle.std.proofs.Common.{◌≡◌, ℕ, zero, suc, ◌-◌, ◌<◌, ◌≤◌, ◌==◌, Bool, true, false, cond, List, [], ◌∷◌, ◌++◌, length, take, drop, Option, Some, None, refl, sym, ap, subst, ◌∙◌, arith, append_assoc, append-nil, eqb-true, leb, le-leb, slice_index}
+use Rattle.std.proofs.lemmas.Bool.{lt-leb}
+use Rattle.std.proofs.lemmas.List.{nil_from_length, take_rest}
 use Rattle.std.proofs.lemmas.List.Elements.{All-cons, All-head, All-nil, All-tail}
 use Rattle.std.proofs.lemmas.Option.{cond_some, none-some, same_Some}
 use Rattle.std.specs.List.{All}
@@ -206,6 +207,28 @@ records_in-parts (suc n) bytes list small is =
     mapped e (Some others) some = (others, refl, same_Some (e ∷ others) list some)
 
 -- ---- taking one record
+
+module _ (bytes : List ℕ) where
+  -- fewer than six bytes have no parts
+  pub parts_in-short : length bytes < 6 → None ≡ parts_in bytes
+  parts_in-short less =
+      ap (λ (b : Bool). cond b (six_then (slice_index bytes 0) (little_number 4 (drop 1 bytes))
+      (slice_index bytes 5) (drop 6 bytes)) None) (sym (lt-leb 6 (length bytes) less))
+
+  -- the parts are those of the first six bytes and those after them
+  pub parts_in-long : (o : Option RecordParts) (pcr : ℕ) → 6 ≤ length bytes
+      → pcr ≡ little_number 4 (take (length bytes - 1) (drop 1 bytes))
+      → o ≡ six_then (slice_index bytes 0) pcr (slice_index bytes 5)
+      (take (length bytes - 6) (drop 6 bytes))
+      → o ≡ parts_in bytes
+  parts_in-long o pcr long pcr_is is =
+      is
+      ∙ (λ i. six_then (slice_index bytes 0)
+      ((pcr_is ∙ ap (little_number 4) (take_rest bytes 1)) i) (slice_index bytes 5)
+      (take_rest bytes 6 i))
+      ∙ ap (λ (b : Bool). cond b (six_then (slice_index bytes 0)
+      (little_number 4 (drop 1 bytes)) (slice_index bytes 5) (drop 6 bytes)) None)
+      (sym (le-leb 6 (length bytes) long))
 
 -- the parts and the entry that were read are those of the record
 pub record_in-entry : (bytes : List ℕ) (p : RecordParts) (e : Entry) → Some p ≡ parts_in bytes

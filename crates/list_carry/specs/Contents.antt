@@ -65,11 +65,15 @@ ima_in bytes =
     cut_at (algo_size Sha1) bytes >>= λ p. digest_by Sha1 p.0
     >>= λ digest. padded_in p.1 >>= λ name. Some (digest, name, [])
 
+-- a digest with the content of `n-ng`, and the bytes after it
+abbrev pub named_in : Digest → List ℕ → Option Fields
+named_in digest bytes =
+    sized_in bytes >>= λ n. name_in n.0 >>= λ name. Some (digest, name, n.1)
+
 -- the contents of `d-ng` and `n-ng`, and the bytes after them
 abbrev pub head_in : List ℕ → Option Fields
 head_in bytes =
-    sized_in bytes >>= λ d. digest_in d.0
-    >>= λ digest. sized_in d.1 >>= λ n. name_in n.0 >>= λ name. Some (digest, name, n.1)
+    sized_in bytes >>= λ d. digest_in d.0 >>= λ digest. named_in digest d.1
 
 -- the content of the last field, after its length
 abbrev pub last_in : List ℕ → Option (List ℕ)

@@ -1,9 +1,8 @@
 -- The grammar of carry texts: the text that lines make, or the first bad line with the first cause
 -- that holds of it.
-use Rattle.std.specs.Prelude.{ℕ, ◌+◌, List, [], ◌∷◌, ◌++◌, length, codes, Option, Some, Result, Ok, Err, ok_or, if◌then◌else◌}
+use Rattle.std.specs.Prelude.{ℕ, ◌+◌, not, nat_lt, List, [], ◌∷◌, ◌++◌, length, codes, Option, Some, Result, Ok, Err, ok_or, if◌then◌else◌}
 use Rattle.std.specs.Str.{bytes_eq}
-use Rattle.ima_templates.specs.declared.entry.Entry.{Entry}
-use Rattle.script_text.specs.Limits.{within_sum}
+use Rattle.script_text.specs.Limits.{most_files, within_sum}
 use Rattle.script_text.specs.fields.SettingFields.{digest_in}
 use Rattle.script_text.specs.ListGrammar as list
 use Rattle.script_text.specs.events.forms.Lines.{◌>>=◌}
@@ -63,6 +62,11 @@ most_form = 4194304
 abbrev pub counted : List ℕ → Draft → Result ℕ LineCause
 counted value d = ok_or (within_sum (d.sum + length value)) cause.TooLarge
 
+-- the sum with the length of one more content, if there can be one more file
+abbrev pub room_for : List ℕ → Draft → Result ℕ LineCause
+room_for content d =
+    if not (nat_lt (length d.text.files) most_files) then Err cause.TooMany else counted content d
+
 -- ---- the lines
 
 -- `imacarry 1`
@@ -70,10 +74,13 @@ unfoldable pub with_version : List (List ℕ) → Draft → Made
 with_version (w ∷ []) d = if bytes_eq w (codes "1") then Ok d else Err cause.BadField
 with_version _ d = Err cause.BadField
 
+-- the value that a word is, and the sum with its length
+unfoldable pub form_of : List ℕ → Draft → Result (List ℕ × ℕ) LineCause
+form_of w d = field (value_of 0 most_form w) λ form. counted form d >>= λ sum. Ok (form, sum)
+
 -- the value of a line `carried VALUE`, and the sum with its length
 unfoldable pub form_in : List (List ℕ) → Draft → Result (List ℕ × ℕ) LineCause
-form_in (w ∷ []) d =
-    field (value_of 0 most_form w) λ form. counted form d >>= λ sum. Ok (form, sum)
+form_in (w ∷ []) d = form_of w d
 form_in _ d = Err cause.BadField
 
 abbrev pub with_carried_list : List ℕ × ℕ → Draft → Result Draft CarryLine

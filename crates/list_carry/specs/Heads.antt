@@ -1,5 +1,5 @@
 -- The kinds of lines of a carry text by their first words, and the order of the lines.
-use Rattle.std.specs.Prelude.{ℕ, ◌==◌, ◌||◌, Bool, true, false, List, [], ◌∷◌, codes, Option}
+use Rattle.std.specs.Prelude.{ℕ, ◌==◌, ◌||◌, Bool, false, List, [], ◌∷◌, codes, Option}
 use Rattle.script_text.specs.Heads.{in_order}
 use Rattle.script_text.specs.events.forms.Tables.{look_up}
 use Rattle.list_carry.specs.Draft.{Draft}

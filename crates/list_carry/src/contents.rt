@@ -2,7 +2,7 @@
 
 ghost use Rattle.std.specs.Prelude.{◌≡◌, option_copied, option_map};
 ghost use Rattle.std.specs.List.{list_all};
-ghost use Rattle.list_carry.specs.Contents.{contents_in, digest_after, digest_by, digest_in, head_in, ima_in, is_zero, last_in, name_in, ng_in, padded_in, shown, third_in};
+ghost use Rattle.list_carry.specs.Contents.{contents_in, digest_after, digest_by, digest_in, head_in, ima_in, is_zero, last_in, name_in, named_in, ng_in, padded_in, shown, third_in};
 
 use crate::cut::{cut_at, sized_in, split_at_first};
 use hash_algos::{Algo, Digest, by_name};
@@ -67,8 +67,14 @@ fn head_in(bytes: &[u8]) -> Option<Contents<'_>>
     ensures { option_map shown result ≡ head_in bytes.now }
 {
     let (field, rest) = sized_in(bytes)?;
-    let digest = digest_in(field)?;
-    let (field, rest) = sized_in(rest)?;
+    named_in(digest_in(field)?, rest)
+}
+
+// The digest with the content of `n-ng`, and as `sig` the bytes after it.
+fn named_in(digest: Digest, bytes: &[u8]) -> Option<Contents<'_>>
+    ensures { option_map shown result ≡ named_in digest bytes.now }
+{
+    let (field, rest) = sized_in(bytes)?;
     let name = name_in(field)?;
     Some(Contents {
         digest,

@@ -6,7 +6,7 @@ ghost use Rattle.script_text.specs.fields.SettingFields.{digest_in, digest_sized
 ghost use Rattle.script_text.specs.events.forms.Paths.{is_path};
 ghost use Rattle.script_text.specs.script_lines.Gives.{LineGives, LineMakes};
 ghost use Rattle.list_carry.specs.Draft.{as_list, with_list};
-ghost use Rattle.list_carry.specs.Grammar.{by_form, counted, form_in, with_boot, with_carried, with_carried_list, with_digest, with_end, with_file, with_listed, with_version};
+ghost use Rattle.list_carry.specs.Grammar.{by_form, counted, form_in, form_of, room_for, with_boot, with_carried, with_carried_list, with_digest, with_end, with_file, with_listed, with_version};
 ghost use Rattle.list_carry.specs.Reading.{load_of};
 
 use crate::carried::Carried;
@@ -70,7 +70,15 @@ impl Draft {
         let [value] = fields else {
             return Err(LineErr::Refused(LineCause::BadField));
         };
-        let form = value_of(alloc, value, 0, FORM)?;
+        self.form_of(alloc, value)
+    }
+
+    // The value that a word is, and the sum with its length.
+    #[tactic(auto, unfolding(crate::specs::Grammar::form_of))]
+    fn form_of(&self, alloc: Global, word: &[u8]) -> Result<(Bytes, usize), LineErr>
+        ensures { LineGives result (form_of word.now self.now) }
+    {
+        let form = value_of(alloc, word, 0, FORM)?;
         let sum = self.counted(form.as_slice())?;
         Ok((form, sum))
     }
@@ -133,12 +141,19 @@ impl Draft {
         requires { IsTrue (is_path file.0) }
         ensures { LineMakes result (with_listed file self.old) self.new }
     {
-        if self.files.len() >= FILES {
-            return Err(LineErr::Refused(LineCause::TooMany));
-        }
-        self.sum = self.counted(file.1.as_slice())?;
+        self.sum = self.room_for(file.1.as_slice())?;
         self.files.push(file)?;
         Ok(())
+    }
+
+    // The sum with the length of one more content, if there can be one more file.
+    fn room_for(&self, content: &[u8]) -> Result<usize, LineCause>
+        ensures { result ≡ room_for content.now self.now }
+    {
+        if self.files.len() >= FILES {
+            return Err(LineCause::TooMany);
+        }
+        self.counted(content)
     }
 
     /// Reads the line `end`, which ends the text.

@@ -52,7 +52,6 @@ fn count_in(b: &[u8]) -> Result<u64, CarryCause>
 }
 
 // Whether the bytes begin with a header of this version that states at least one record.
-#[tactic(auto, unfolding(crate::specs::Reading::has_header))]
 fn has_header(b: &[u8]) -> bool
     ensures { result ≡ has_header b.now }
 {

@@ -1,7 +1,7 @@
 // Reading records.
 
 ghost use Rattle.std.specs.Prelude.{◌≡◌, IfOk, option_copied, option_map};
-ghost use Rattle.list_carry.specs.Reading.{Takes, flag_by, parts_in, parts_of, record_in, records_in, template_by};
+ghost use Rattle.list_carry.specs.Reading.{Takes, flag_by, parts_in, parts_of, record_in, records_in, six_then, template_by};
 
 use crate::cut::sized_in;
 use crate::entries::entry_in;
@@ -84,12 +84,21 @@ fn parts_in(bytes: &[u8]) -> Option<Parts<'_>>
     if bytes.len() < 6 {
         return None;
     }
-    let violation = flag_by(bytes[0])?;
-    let template = template_by(bytes[5])?;
-    let (data, rest) = sized_in(&bytes[6..])?;
+    let pcr = LittleEndian::read_u32(&bytes[1..]);
+    six_then(bytes[0], pcr, bytes[5], &bytes[6..])
+}
+
+// The parts of a record with this first byte, this register, this sixth byte and these bytes after
+// them.
+fn six_then(first: u8, pcr: u32, sixth: u8, bytes: &[u8]) -> Option<Parts<'_>>
+    ensures { option_map parts_of result ≡ six_then first pcr sixth bytes.now }
+{
+    let violation = flag_by(first)?;
+    let template = template_by(sixth)?;
+    let (data, rest) = sized_in(bytes)?;
     Some(Parts {
         violation,
-        pcr: LittleEndian::read_u32(&bytes[1..]),
+        pcr,
         template,
         bytes: data,
         rest,

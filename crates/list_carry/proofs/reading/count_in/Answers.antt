@@ -1,5 +1,7 @@
 -- The tests of a header are those of the definition.
-use Rattle.list_carry.proofs.FormLemmas.{count-read, count-within, count_in-headless, count_in-short, count_in-trailing, count_in-whole, length-read, length-within, right-long}
+use Rattle.std.proofs.Common.{refl}
+use Rattle.list_carry.proofs.Cutting.{number-read, number-within}
+use Rattle.list_carry.proofs.FormLemmas.{count_in-headless, count_in-short, count_in-trailing, count_in-whole, right-long}
 use Rattle.list_carry.proofs.reading.count_in.Goals as goal
 
 pub returns-then-not-has_header : goal.returns-then-not-has_header
@@ -7,15 +9,15 @@ returns-then-not-has_header c = count_in-headless c.args.b.now c.if-not-has_head
 
 pub slice_bounds-read_u64-count : goal.slice_bounds-read_u64-count
 slice_bounds-read_u64-count c =
-    length-within c.args.b.now (right-long c.args.b.now c.if-not-has_header.ensures)
+    number-within 16 8 24 c.args.b.now (right-long c.args.b.now c.if-not-has_header.ensures) refl
 
 pub slice_bounds-read_u64-start : goal.slice_bounds-read_u64-start
 slice_bounds-read_u64-start c =
-    length-within c.args.b.now (right-long c.args.b.now c.if-not-has_header.ensures)
+    number-within 16 8 24 c.args.b.now (right-long c.args.b.now c.if-not-has_header.ensures) refl
 
 pub read_u64-stated-requires : goal.read_u64-stated-requires
 read_u64-stated-requires c =
-    length-read c.args.b.now (right-long c.args.b.now c.if-not-has_header.ensures)
+    number-read 16 8 24 c.args.b.now (right-long c.args.b.now c.if-not-has_header.ensures) refl
 
 pub returns-then-length-stated : goal.returns-then-length-stated
 returns-then-length-stated c =
@@ -29,15 +31,15 @@ returns-then-stated-length c =
 
 pub slice_bounds-read_u64-count-2 : goal.slice_bounds-read_u64-count-2
 slice_bounds-read_u64-count-2 c =
-    count-within c.args.b.now (right-long c.args.b.now c.if-not-has_header.ensures)
+    number-within 8 8 24 c.args.b.now (right-long c.args.b.now c.if-not-has_header.ensures) refl
 
 pub slice_bounds-read_u64-start-2 : goal.slice_bounds-read_u64-start-2
 slice_bounds-read_u64-start-2 c =
-    count-within c.args.b.now (right-long c.args.b.now c.if-not-has_header.ensures)
+    number-within 8 8 24 c.args.b.now (right-long c.args.b.now c.if-not-has_header.ensures) refl
 
 pub read_u64-requires : goal.read_u64-requires
 read_u64-requires c =
-    count-read c.args.b.now (right-long c.args.b.now c.if-not-has_header.ensures)
+    number-read 8 8 24 c.args.b.now (right-long c.args.b.now c.if-not-has_header.ensures) refl
 
 pub returns : goal.returns
 returns c =
