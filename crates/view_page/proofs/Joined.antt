@@ -1,7 +1,8 @@
 -- Pages of lists of parts that are joined.
-use Rattle.std.proofs.Common.{arith, ◌≡◌, ℕ, ◌+◌, ◌<◌, List, [], ◌++◌, append_assoc, append-nil, length, take, get_or, sym, ◌∙◌, ap}
+use Rattle.std.proofs.Common.{◌≡◌, ℕ, ◌+◌, ◌<◌, List, [], ◌++◌, append_assoc, append-nil, length, take, get_or, sym, ◌∙◌, ap}
 use Rattle.std.specs.List.{flat_map}
-use Rattle.std.proofs.lemmas.Grind.{common_steps, flat_map-append}
+use Rattle.std.proofs.lemmas.Grind.{flat_map-append}
+use Rattle.list_lemmas.proofs.Appending.{flat_map_more}
 use Rattle.view_page.specs.Parts.{Pushed, bytes_of, page_of}
 use Rattle.view_page.specs.declared.part.Part.{Part}
 
@@ -35,27 +36,12 @@ pub no_parts : (text out : List ℕ) → Pushed text out out []
 unfolding page_of
 no_parts text out = record { is = sym (append-nil out) }
 
-flat_map_more : {A B : Type 0} (f : A → List B) (xs : List A) (i : ℕ) (d : A)
-    → i < length xs
-    → flat_map f (take (i + 1) xs) ≡ flat_map f (take i xs) ++ f (get_or xs i d)
-flat_map_more f xs i d within = grind (arith, common_steps)
-
 -- the parts of one more item were appended
 pub one_more : {A : Type 0} {text out a b : List ℕ} (f : A → List Part) (xs : List A) (i : ℕ)
     (d : A) → i < length xs → Pushed text out a (flat_map f (take i xs))
     → Pushed text a b (f (get_or xs i d)) → Pushed text out b (flat_map f (take (i + 1) xs))
 one_more f xs i d within so_far next =
     as_parts (so_far ▹ next) (sym (flat_map_more f xs i d within))
-
--- the bytes of one more item were appended
-pub one_more_text : {A : Type 0} {a b : List ℕ} (out : List ℕ) (f : A → List ℕ) (xs : List A)
-    (i : ℕ) (d : A) → i < length xs → a ≡ out ++ flat_map f (take i xs) → b ≡ a ++ f (get_or xs i d)
-    → b ≡ out ++ flat_map f (take (i + 1) xs)
-one_more_text {A} {a} {b} out f xs i d within so_far next =
-    next
-    ∙ (ap (λ (x : List ℕ). x ++ f (get_or xs i d)) so_far
-    ∙ (append_assoc out (flat_map f (take i xs)) (f (get_or xs i d))
-    ∙ ap (λ (x : List ℕ). out ++ x) (sym (flat_map_more f xs i d within))))
 
 -- after the parts of an item were appended, those of the others are left
 pub going : (text total now next : List ℕ) (here rest : List Part) → Pushed text now next here

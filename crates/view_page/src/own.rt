@@ -1,6 +1,6 @@
 // The program's own bytes of a drawing.
 
-ghost use Rattle.std.specs.Prelude.{◌≡◌, ◌≢◌, ◌++◌, OnOk};
+ghost use Rattle.std.specs.Prelude.{◌≡◌, ◌++◌, MatchOption, OnOk};
 ghost use Rattle.view_page.specs.Own as spec;
 ghost use Rattle.view_page.specs.declared.own.Own.TheVariants as variants;
 
@@ -108,70 +108,71 @@ pub enum Own {
 pub fn push_own(out: &mut Vec<u8>, own: Own) -> Result<(), OutOfMemory>
     ensures { OnOk result (out.new.items ≡ out.old.items ++ spec.own_bytes own) }
 {
-    match own {
-        Own::Rules => push_rules(out),
-        _ => push_all(out, own_bytes(own)),
+    match own_bytes(own) {
+        Some(bytes) => push_all(out, bytes),
+        None => push_rules(out),
     }
 }
 
-// Its bytes, but for the rules, which are many texts.
-fn own_bytes(own: Own) -> &'static [u8]
-    ensures { own ≢ variants.Rules → result.now ≡ spec.own_bytes own }
+// Its bytes, or none for the rules, which are many texts.
+fn own_bytes(own: Own) -> Option<&'static [u8]>
+    ensures { MatchOption result (own ≡ variants.Rules)
+        (λ bytes. bytes.now ≡ spec.own_bytes own) }
 {
     match own {
-        Own::Svg => b"<svg xmlns=\"http://www.w3.org/2000/svg\" class=\"tl\" width=\"",
-        Own::SvgHeight => b"\" height=\"",
-        Own::SvgBox => b"\" viewBox=\"0 -",
-        Own::Space => b" ",
-        Own::SvgOpen => b"\">",
-        Own::Style => b"<style>",
-        Own::StyleEnd => b"</style>",
-        Own::Y => b"\" y=\"",
-        Own::Width => b"\" width=\"",
-        Own::Height => b"\" height=\"",
-        Own::Close => b"\"/>",
-        Own::UpFrom => b" -",
-        Own::DownTo => b"V",
-        Own::LaneName => b"<text class=\"lane\" x=\"88\" y=\"",
-        Own::TaskIs => b"\">task ",
-        Own::TextEnd => b"</text>",
-        Own::Is => b"\">",
-        Own::MinusY => b"\" y=\"-",
-        Own::Place => b"-e",
-        Own::At => b"\" transform=\"translate(",
-        Own::Comma => b",",
-        Own::Title => b")\"><title>",
-        Own::TitleEnd => b"</title>",
-        Own::GroupEnd => b"</g>",
-        Own::PlaceText => b"<text class=\"place\" dy=\"10\" x=\"",
-        Own::DeedText => b"<text class=\"deed\" transform=\"translate(",
-        Own::RedText => b"<text class=\"deed red\" transform=\"translate(",
-        Own::Slant => b") translate(4 20) rotate(-52)\">",
-        Own::Plus => b"+",
-        Own::GapGroup => b"<g transform=\"translate(",
-        Own::GapBlock => b")\"><rect class=\"gap\" x=\"8\" y=\"-2\" width=\"74\" height=\"",
-        Own::GapText => b"\"/><text class=\"gap\" x=\"45\" y=\"30\">",
-        Own::GapEnd => b"<tspan x=\"45\" dy=\"14\">not drawn</tspan></text></g>",
-        Own::ContentText => b"<text class=\"in\" dx=\"4\" y=\"55\" x=\"",
-        Own::PartingText => b"<text class=\"parts\" dx=\"4\" dy=\"112\" x=\"",
-        Own::PartingWords => b"\">the journals part here</text>",
-        Own::SvgEnd => b"</svg>\n",
-        Own::Shape(mark) => shape(mark),
-        Own::Block(x) => block(x),
-        Own::Line(x) => line(x),
-        Own::StripName(x) => strip_name(x),
-        Own::CountBlock(x) => count_block(x),
-        Own::ZeroBlock(x) => zero_block(x),
-        Own::CountText(x) => count_text(x),
-        Own::ContentBlock(x) => content_block(x),
-        Own::ContentWord(x) => content_word(x),
-        Own::FlagBlock(x) => flag_block(x),
-        Own::FlagText(x) => flag_text(x),
-        Own::FlagWords(x) => flag_words(x),
-        Own::Group(x) => group(x),
-        Own::DeedWord(x) => deed_word(x),
-        Own::KindWord(x) => kind_word(x),
-        Own::Rules => b"",
+        Own::Svg => Some(b"<svg xmlns=\"http://www.w3.org/2000/svg\" class=\"tl\" width=\""),
+        Own::SvgHeight => Some(b"\" height=\""),
+        Own::SvgBox => Some(b"\" viewBox=\"0 -"),
+        Own::Space => Some(b" "),
+        Own::SvgOpen => Some(b"\">"),
+        Own::Style => Some(b"<style>"),
+        Own::StyleEnd => Some(b"</style>"),
+        Own::Y => Some(b"\" y=\""),
+        Own::Width => Some(b"\" width=\""),
+        Own::Height => Some(b"\" height=\""),
+        Own::Close => Some(b"\"/>"),
+        Own::UpFrom => Some(b" -"),
+        Own::DownTo => Some(b"V"),
+        Own::LaneName => Some(b"<text class=\"lane\" x=\"88\" y=\""),
+        Own::TaskIs => Some(b"\">task "),
+        Own::TextEnd => Some(b"</text>"),
+        Own::Is => Some(b"\">"),
+        Own::MinusY => Some(b"\" y=\"-"),
+        Own::Place => Some(b"-e"),
+        Own::At => Some(b"\" transform=\"translate("),
+        Own::Comma => Some(b","),
+        Own::Title => Some(b")\"><title>"),
+        Own::TitleEnd => Some(b"</title>"),
+        Own::GroupEnd => Some(b"</g>"),
+        Own::PlaceText => Some(b"<text class=\"place\" dy=\"10\" x=\""),
+        Own::DeedText => Some(b"<text class=\"deed\" transform=\"translate("),
+        Own::RedText => Some(b"<text class=\"deed red\" transform=\"translate("),
+        Own::Slant => Some(b") translate(4 20) rotate(-52)\">"),
+        Own::Plus => Some(b"+"),
+        Own::GapGroup => Some(b"<g transform=\"translate("),
+        Own::GapBlock => Some(b")\"><rect class=\"gap\" x=\"8\" y=\"-2\" width=\"74\" height=\""),
+        Own::GapText => Some(b"\"/><text class=\"gap\" x=\"45\" y=\"30\">"),
+        Own::GapEnd => Some(b"<tspan x=\"45\" dy=\"14\">not drawn</tspan></text></g>"),
+        Own::ContentText => Some(b"<text class=\"in\" dx=\"4\" y=\"55\" x=\""),
+        Own::PartingText => Some(b"<text class=\"parts\" dx=\"4\" dy=\"112\" x=\""),
+        Own::PartingWords => Some(b"\">the journals part here</text>"),
+        Own::SvgEnd => Some(b"</svg>\n"),
+        Own::Shape(mark) => Some(shape(mark)),
+        Own::Block(x) => Some(block(x)),
+        Own::Line(x) => Some(line(x)),
+        Own::StripName(x) => Some(strip_name(x)),
+        Own::CountBlock(x) => Some(count_block(x)),
+        Own::ZeroBlock(x) => Some(zero_block(x)),
+        Own::CountText(x) => Some(count_text(x)),
+        Own::ContentBlock(x) => Some(content_block(x)),
+        Own::ContentWord(x) => Some(content_word(x)),
+        Own::FlagBlock(x) => Some(flag_block(x)),
+        Own::FlagText(x) => Some(flag_text(x)),
+        Own::FlagWords(x) => Some(flag_words(x)),
+        Own::Group(x) => Some(group(x)),
+        Own::DeedWord(x) => Some(deed_word(x)),
+        Own::KindWord(x) => Some(kind_word(x)),
+        Own::Rules => None,
     }
 }
 
