@@ -1,9 +1,10 @@
 -- The pieces that the code appends one after another make up lines.
-use Rattle.std.proofs.Common.{◌≡◌, ℕ, ◌+◌, ◌<◌, List, [], ◌∷◌, ◌++◌, get_or, length, map, take, refl, sym, ap, ◌∙◌, subst, append_assoc}
+use Rattle.std.proofs.Common.{◌≡◌, ℕ, ◌+◌, ◌<◌, ◌≤◌, List, [], ◌∷◌, ◌++◌, get_or, length, map, take, refl, sym, ap, ◌∙◌, subst, append_assoc}
 use Rattle.std.specs.Prelude.{decimal}
 use Rattle.std.specs.List.{AllByRecursion, flat_map}
-use Rattle.std.proofs.lemmas.List.{append-nil, map-append, take_more}
+use Rattle.std.proofs.lemmas.List.{append-nil, map-append, take_all, take_more}
 use Rattle.std.proofs.lemmas.List.Concat.{flat_map-append}
+use Rattle.list_lemmas.proofs.Appending.{one_more}
 use Rattle.policy_text.specs.rules.RuleValue.{RuleValue}
 use Rattle.policy_text.specs.Spelling.{rule_text, rule_words}
 use Rattle.script_text.proofs.Lasts.{each_after}
@@ -33,12 +34,6 @@ lines_more ls ms = flat_map-append line_text ls ms
 
 -- ---- one section after another
 
--- lines appended to lines
-put_more : (o p : List ℕ) (done ls : List Line) (text : List ℕ) → o ≡ lines_text done
-    → text ≡ lines_text ls → p ≡ o ++ text → p ≡ lines_text (done ++ ls)
-put_more o p done ls text h e k =
-    k ∙ ap (λ t. t ++ text) h ∙ ap (λ t. lines_text done ++ t) e ∙ sym (lines_more done ls)
-
 -- lines appended to lines that follow some text
 put_after : (start o p : List ℕ) (done ls : List Line) (text : List ℕ)
     → o ≡ start ++ lines_text done → text ≡ lines_text ls → p ≡ o ++ text
@@ -49,15 +44,14 @@ put_after start o p done ls text h e k =
     ∙ ap (λ t. start ++ t) (sym (lines_more done ls))
 
 -- the text of one line
-one_line_text : (l : Line) → line_text l ≡ lines_text (l ∷ [])
+pub one_line_text : (l : Line) → line_text l ≡ lines_text (l ∷ [])
 one_line_text l = sym (append-nil (line_text l))
 
--- the sections, grouped as they are appended, are the lines of the script
-grouped : (a b c d e f g : List Line)
-    → ((((((a ++ b) ++ c) ++ d) ++ e) ++ f) ++ g) ≡ a ++ (b ++ (c ++ (d ++ (e ++ (f ++ g)))))
-grouped a b c d e f g = simp append_assoc
+-- four sections before others
+grouped : (a b c d e : List Line) → (a ++ (b ++ (c ++ d))) ++ e ≡ a ++ (b ++ (c ++ (d ++ e)))
+grouped a b c d e = simp append_assoc
 
--- the lines of EVM's settings, grouped as they are appended
+-- four sections, grouped as they are appended
 grouped_four : (a b c d : List Line) → (((a ++ b) ++ c) ++ d) ≡ a ++ (b ++ (c ++ d))
 grouped_four a b c d = simp append_assoc
 
@@ -77,36 +71,35 @@ pub five_put : (start o1 o2 o3 o4 o5 : List ℕ) (l1 l2 l3 l4 l5 : Line)
 five_put start o1 o2 o3 o4 o5 l1 l2 l3 l4 l5 e1 e2 e3 e4 e5 =
     rw (e5, e4, e3, e2, e1) (simp append_assoc)
 
--- three sections and a line appended to a text
-pub four_put : (start o1 o2 o3 o4 : List ℕ) (a b c : List Line) (text : List ℕ) (l : Line)
-    → o1 ≡ start ++ lines_text a → text ≡ lines_text b → o2 ≡ o1 ++ text
-    → o3 ≡ o2 ++ lines_text c → o4 ≡ o3 ++ line_text l
-    → o4 ≡ start ++ lines_text (a ++ (b ++ (c ++ l ∷ [])))
-four_put start o1 o2 o3 o4 a b c text l e1 t e2 e3 e4 =
-    let h2 = put_after start o1 o2 a b text e1 t e2 in
-    let h3 = put_after start o2 o3 (a ++ b) c (lines_text c) h2 refl e3 in
-    let h4 = put_after start o3 o4 ((a ++ b) ++ c) (l ∷ []) (line_text l) h3 (one_line_text l) e4
-    in
-    h4 ∙ ap (λ ls. start ++ lines_text ls) (grouped_four a b c (l ∷ []))
+-- four sections appended to a text
+pub four_put : (start o1 o2 o3 o4 : List ℕ) (a b c d : List Line) (tb tc td : List ℕ)
+    → o1 ≡ start ++ lines_text a → tb ≡ lines_text b → o2 ≡ o1 ++ tb → tc ≡ lines_text c
+    → o3 ≡ o2 ++ tc → td ≡ lines_text d → o4 ≡ o3 ++ td
+    → o4 ≡ start ++ lines_text (a ++ (b ++ (c ++ d)))
+four_put start o1 o2 o3 o4 a b c d tb tc td e1 b2 e2 c3 e3 d4 e4 =
+    let h2 = put_after start o1 o2 a b tb e1 b2 e2 in
+    let h3 = put_after start o2 o3 (a ++ b) c tc h2 c3 e3 in
+    let h4 = put_after start o3 o4 ((a ++ b) ++ c) d td h3 d4 e4 in
+    h4 ∙ ap (λ ls. start ++ lines_text ls) (grouped_four a b c d)
 
--- six sections and a line appended to a text
-pub seven_put : (o0 o1 o2 o3 o4 o5 o6 o7 : List ℕ) (a b c d e f : List Line)
-    (tc td te tf : List ℕ) (l : Line)
-    → o0 ≡ [] → o1 ≡ o0 ++ lines_text a → o2 ≡ o1 ++ lines_text b
-    → tc ≡ lines_text c → o3 ≡ o2 ++ tc → td ≡ lines_text d → o4 ≡ o3 ++ td
-    → te ≡ lines_text e → o5 ≡ o4 ++ te → tf ≡ lines_text f → o6 ≡ o5 ++ tf
-    → o7 ≡ o6 ++ line_text l
-    → o7 ≡ lines_text (a ++ (b ++ (c ++ (d ++ (e ++ (f ++ l ∷ []))))))
-seven_put o0 o1 o2 o3 o4 o5 o6 o7 a b c d e f tc td te tf l n e1 e2 c3 e3 c4 e4 c5 e5 c6 e6 e7 =
-    let h1 : o1 ≡ lines_text a = put_more o0 o1 [] a (lines_text a) n refl e1 in
-    let h2 = put_more o1 o2 a b (lines_text b) h1 refl e2 in
-    let h3 = put_more o2 o3 (a ++ b) c tc h2 c3 e3 in
-    let h4 = put_more o3 o4 ((a ++ b) ++ c) d td h3 c4 e4 in
-    let h5 = put_more o4 o5 (((a ++ b) ++ c) ++ d) e te h4 c5 e5 in
-    let h6 = put_more o5 o6 ((((a ++ b) ++ c) ++ d) ++ e) f tf h5 c6 e6 in
-    let h7 = put_more o6 o7 (((((a ++ b) ++ c) ++ d) ++ e) ++ f) (l ∷ []) (line_text l) h6
-    (one_line_text l) e7 in
-    h7 ∙ ap (λ ls. lines_text ls) (grouped a b c d e f (l ∷ []))
+-- two sections and a line appended to a text
+pub three_put : (start o1 o2 o3 : List ℕ) (a b : List Line) (ta tb : List ℕ) (l : Line)
+    → ta ≡ lines_text a → o1 ≡ start ++ ta → tb ≡ lines_text b → o2 ≡ o1 ++ tb
+    → o3 ≡ o2 ++ line_text l → o3 ≡ start ++ lines_text (a ++ (b ++ l ∷ []))
+three_put start o1 o2 o3 a b ta tb l a1 e1 b2 e2 e3 =
+    let h1 : o1 ≡ start ++ lines_text a = e1 ∙ ap (λ t. start ++ t) a1 in
+    let h2 = put_after start o1 o2 a b tb h1 b2 e2 in
+    let h3 = put_after start o2 o3 (a ++ b) (l ∷ []) (line_text l) h2 (one_line_text l) e3 in
+    h3 ∙ ap (λ ls. start ++ lines_text ls) (append_assoc a b (l ∷ []))
+
+-- all sections, in two halves
+pub halves_put : (o0 o1 o2 : List ℕ) (a b c d e : List Line) → o0 ≡ []
+    → o1 ≡ o0 ++ lines_text (a ++ (b ++ (c ++ d))) → o2 ≡ o1 ++ lines_text e
+    → o2 ≡ lines_text (a ++ (b ++ (c ++ (d ++ e))))
+halves_put o0 o1 o2 a b c d e n e1 e2 =
+    put_after o0 o1 o2 (a ++ (b ++ (c ++ d))) e (lines_text e) e1 refl e2
+    ∙ ap (λ t. t ++ lines_text ((a ++ (b ++ (c ++ d))) ++ e)) n
+    ∙ ap (λ ls. lines_text ls) (grouped a b c d e)
 
 -- ---- the words of a line, one after another
 
@@ -160,12 +153,12 @@ pub text_more : {X : Type 0} (f : X → List ℕ) (xs : List X) (i : ℕ) (x : X
     (start o p : List ℕ) → i < length xs → x ≡ get_or xs i x
     → o ≡ start ++ flat_map f (take i xs) → p ≡ o ++ f x
     → p ≡ start ++ flat_map f (take (i + 1) xs)
-text_more f xs i x start o p lt is h k =
-    k ∙ ap (λ l. l ++ f x) h ∙ append_assoc start (flat_map f (take i xs)) (f x)
-    ∙ ap (λ l. start ++ l)
-    (ap (λ l. flat_map f (take i xs) ++ l) (sym (append-nil (f x)))
-    ∙ sym (flat_map-append f (take i xs) (x ∷ []))
-    ∙ ap (λ l. flat_map f l) (sym (taken xs i x lt is)))
+text_more f xs i x start o p lt is h k = one_more start f xs i x lt h (k ∙ ap (λ y. o ++ f y) is)
+
+-- past the last element, the texts of all
+pub text_all : {X : Type 0} (f : X → List ℕ) (xs : List X) (i : ℕ) (start o : List ℕ)
+    → length xs ≤ i → o ≡ start ++ flat_map f (take i xs) → o ≡ start ++ flat_map f xs
+text_all f xs i start o le h = h ∙ ap (λ l. start ++ flat_map f l) (take_all i xs le)
 
 -- a property of the elements so far holds with one more
 pub all_more : {X : Type 0} (P : X → Type 0) (xs : List X) (i : ℕ) (x : X) → i < length xs
@@ -173,6 +166,11 @@ pub all_more : {X : Type 0} (P : X → Type 0) (xs : List X) (i : ℕ) (x : X) �
     → AllByRecursion P (take (i + 1) xs)
 all_more P xs i x lt is h k =
     subst (λ l. AllByRecursion P l) (sym (taken xs i x lt is)) (each_after P (take i xs) x h k)
+
+-- past the last element it holds of all
+pub all_done : {X : Type 0} (P : X → Type 0) (xs : List X) (i : ℕ) → length xs ≤ i
+    → AllByRecursion P (take i xs) → AllByRecursion P xs
+all_done P xs i le h = subst (λ l. AllByRecursion P l) (take_all i xs le) h
 
 -- the values that are made of the elements so far, and one more
 pub map_more : {X Y Z : Type 0} (f : X → Z) (g : Y → Z) (xs : List X) (i : ℕ) (x : X)

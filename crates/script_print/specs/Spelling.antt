@@ -118,6 +118,17 @@ script_lines s =
     ++ (map rule_line s.rules
     ++ (flat_map (task_lines (map path_of_block s.files)) s.tasks ++ ending_line s.ending ∷ [])))))
 
+-- the sections of settings, file systems and files, which are the first of these
+abbrev pub system_lines : ScriptValue → List Line
+system_lines s =
+    setting_lines s ++ (evm_lines s ++ (map super_line s.supers ++ flat_map file_lines s.files))
+
+-- the others
+abbrev pub work_lines : ScriptValue → List Line
+work_lines s =
+    map rule_line s.rules
+    ++ (flat_map (task_lines (map path_of_block s.files)) s.tasks ++ ending_line s.ending ∷ [])
+
 -- the canonical text of a script
 unfoldable pub script_text : ScriptValue → List ℕ
 script_text s = lines_text (script_lines s)

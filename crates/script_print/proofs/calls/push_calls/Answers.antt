@@ -1,12 +1,10 @@
-use Rattle.std.proofs.Common.{List, ℕ, [], ◌∷◌, ◌++◌, map, sym, ap, ◌∙◌, subst, append_assoc}
-use Rattle.std.specs.List.{AllByRecursion, flat_map}
-use Rattle.std.proofs.lemmas.List.{append-nil, take_all}
+use Rattle.std.proofs.Common.{List, ℕ, [], ◌∷◌, ◌++◌, map, sym, ap, ◌∙◌, append_assoc}
+use Rattle.std.proofs.lemmas.List.{append-nil}
 use Rattle.std.proofs.lemmas.Result.{err_from_is_err_and}
-use Rattle.script_text.specs.steps.declared.call.Call.{Call}
 use Rattle.call_lines.specs.Calls.{call_line}
 use Rattle.call_lines.specs.Lines.{line_text, words_text}
 use Rattle.call_lines.specs.Rules.{HasReadRule}
-use Rattle.script_print.proofs.Pieces.{all_more, text_more}
+use Rattle.script_print.proofs.Pieces.{all_done, all_more, text_all, text_more}
 use Rattle.script_print.proofs.calls.push_calls.Goals as goal
 
 pub loop-call-init : goal.loop-call-init
@@ -41,22 +39,23 @@ returns-in_err-push_call-clause-rules c =
 
 pub returns-in_err-push-clause-text : goal.returns-in_err-push-clause-text
 returns-in_err-push-clause-text c =
-    let p = err_from_is_err_and c.from_residual-in_err-push.result c.from_residual-in_err-push.ensures.1 in
+    let p = err_from_is_err_and c.from_residual-in_err-push.result
+    c.from_residual-in_err-push.ensures.1 in
     rw (p.1) tt
 
 pub returns-in_err-push-clause-rules : goal.returns-in_err-push-clause-rules
 returns-in_err-push-clause-rules c =
-    let p = err_from_is_err_and c.from_residual-in_err-push.result c.from_residual-in_err-push.ensures.1 in
+    let p = err_from_is_err_and c.from_residual-in_err-push.result
+    c.from_residual-in_err-push.ensures.1 in
     rw (p.1) tt
 
 pub returns-clause-text : goal.returns-clause-text
 returns-clause-text c =
+    text_all (λ x. line_text (call_line (map (λ p. p.now) c.args.paths.now) x)) c.args.calls.now
+    c.loop-call.call-index c.args.out.now.items c.loop-call.out.items c.loop-call-test.false
     c.loop-call.invariant.text
-    ∙ ap (λ (calls : List Call). c.args.out.now.items ++ flat_map (λ x. line_text (call_line (map (λ p. p.now) c.args.paths.now) x)) calls)
-    (take_all c.loop-call.call-index c.args.calls.now c.loop-call-test.false)
 
 pub returns-clause-rules : goal.returns-clause-rules
 returns-clause-rules c =
-    subst (λ (calls : List Call). AllByRecursion HasReadRule calls)
-    (take_all c.loop-call.call-index c.args.calls.now c.loop-call-test.false)
+    all_done HasReadRule c.args.calls.now c.loop-call.call-index c.loop-call-test.false
     c.loop-call.invariant.read

@@ -1,12 +1,10 @@
-use Rattle.std.proofs.Common.{List, ◌++◌, sym, ap, ◌∙◌, subst}
-use Rattle.std.specs.List.{AllByRecursion, flat_map}
-use Rattle.std.proofs.lemmas.List.{append-nil, take_all}
+use Rattle.std.proofs.Common.{sym}
+use Rattle.std.proofs.lemmas.List.{append-nil}
 use Rattle.std.proofs.lemmas.Result.{err_from_is_err_and}
-use Rattle.policy_text.specs.rules.RuleValue.{RuleValue}
 use Rattle.call_lines.specs.Lines.{line_text}
 use Rattle.call_lines.specs.Rules.{IsReadRule}
 use Rattle.script_print.specs.Spelling.{rule_line}
-use Rattle.script_print.proofs.Pieces.{all_more, text_more}
+use Rattle.script_print.proofs.Pieces.{all_done, all_more, text_all, text_more}
 use Rattle.script_print.proofs.calls.push_rules.Goals as goal
 
 pub loop-rule-init : goal.loop-rule-init
@@ -36,12 +34,10 @@ returns-in_err-push_rule-clause-rules c =
 
 pub returns-clause-text : goal.returns-clause-text
 returns-clause-text c =
-    c.loop-rule.invariant.text
-    ∙ ap (λ (rules : List RuleValue). c.args.out.now.items ++ flat_map (λ r. line_text (rule_line r)) rules)
-    (take_all c.loop-rule.rule-index c.args.rules.now c.loop-rule-test.false)
+    text_all (λ r. line_text (rule_line r)) c.args.rules.now c.loop-rule.rule-index
+    c.args.out.now.items c.loop-rule.out.items c.loop-rule-test.false c.loop-rule.invariant.text
 
 pub returns-clause-rules : goal.returns-clause-rules
 returns-clause-rules c =
-    subst (λ (rules : List RuleValue). AllByRecursion IsReadRule rules)
-    (take_all c.loop-rule.rule-index c.args.rules.now c.loop-rule-test.false)
+    all_done IsReadRule c.args.rules.now c.loop-rule.rule-index c.loop-rule-test.false
     c.loop-rule.invariant.read

@@ -1,12 +1,10 @@
-use Rattle.std.proofs.Common.{List, ◌++◌, map, sym, ap, ◌∙◌, subst}
-use Rattle.std.specs.List.{AllByRecursion, flat_map}
-use Rattle.std.proofs.lemmas.List.{append-nil, take_all}
+use Rattle.std.proofs.Common.{map, sym}
+use Rattle.std.proofs.lemmas.List.{append-nil}
 use Rattle.std.proofs.lemmas.Result.{err_from_is_err_and}
-use Rattle.script_text.specs.declared.blocks.TaskBlock.{TaskBlock}
 use Rattle.call_lines.specs.Lines.{lines_text}
 use Rattle.script_print.specs.Rules.{AreReadRules}
 use Rattle.script_print.specs.Spelling.{task_lines}
-use Rattle.script_print.proofs.Pieces.{all_more, text_more}
+use Rattle.script_print.proofs.Pieces.{all_done, all_more, text_all, text_more}
 use Rattle.script_print.proofs.calls.push_tasks.Goals as goal
 
 pub loop-task-init : goal.loop-task-init
@@ -36,12 +34,11 @@ returns-in_err-push_task-clause-rules c =
 
 pub returns-clause-text : goal.returns-clause-text
 returns-clause-text c =
+    text_all (λ t. lines_text (task_lines (map (λ p. p.now) c.args.paths.now) t)) c.args.tasks.now
+    c.loop-task.task-index c.args.out.now.items c.loop-task.out.items c.loop-task-test.false
     c.loop-task.invariant.text
-    ∙ ap (λ (tasks : List TaskBlock). c.args.out.now.items ++ flat_map (λ t. lines_text (task_lines (map (λ p. p.now) c.args.paths.now) t)) tasks)
-    (take_all c.loop-task.task-index c.args.tasks.now c.loop-task-test.false)
 
 pub returns-clause-rules : goal.returns-clause-rules
 returns-clause-rules c =
-    subst (λ (tasks : List TaskBlock). AllByRecursion AreReadRules tasks)
-    (take_all c.loop-task.task-index c.args.tasks.now c.loop-task-test.false)
+    all_done AreReadRules c.args.tasks.now c.loop-task.task-index c.loop-task-test.false
     c.loop-task.invariant.read

@@ -1,10 +1,9 @@
-use Rattle.std.proofs.Common.{List, ℕ, ◌++◌, sym, ap, ◌∙◌}
-use Rattle.std.specs.List.{flat_map}
-use Rattle.std.proofs.lemmas.List.{append-nil, take_all}
+use Rattle.std.proofs.Common.{sym}
+use Rattle.std.proofs.lemmas.List.{append-nil}
 use Rattle.std.proofs.lemmas.Result.{err_from_is_err_and}
 use Rattle.call_lines.specs.Lines.{line_text}
 use Rattle.script_print.specs.Spelling.{attr_line}
-use Rattle.script_print.proofs.Pieces.{text_more}
+use Rattle.script_print.proofs.Pieces.{text_all, text_more}
 use Rattle.script_print.proofs.files.push_attrs.Goals as goal
 
 pub loop-attr-init : goal.loop-attr-init
@@ -24,7 +23,5 @@ returns-in_err-push_attr c =
 
 pub returns : goal.returns
 returns c =
-    c.loop-attr.invariant
-    ∙ ap (λ (attrs : List (List ℕ × List ℕ)). c.args.out.now.items
-    ++ flat_map (λ a. line_text (attr_line a)) attrs)
-    (take_all c.loop-attr.attr-index c.args.attrs.now c.loop-attr-test.false)
+    text_all (λ a. line_text (attr_line a)) c.args.attrs.now c.loop-attr.attr-index
+    c.args.out.now.items c.loop-attr.out.items c.loop-attr-test.false c.loop-attr.invariant
