@@ -1,5 +1,5 @@
 -- The records of one event more, by what a walk knows before it.
-use Rattle.std.proofs.Common.{◌≡◌, ℕ, ◌+◌, ◌<◌, ◌≤◌, List, [], ◌++◌, length, take, get_or, Option, Some, refl, sym, ◌∙◌, ap, arith}
+use Rattle.std.proofs.Common.{◌≡◌, ℕ, ◌+◌, ◌<◌, ◌≤◌, List, [], ◌++◌, length, take, get_or, Option, Some, None, refl, sym, ◌∙◌, ap, arith}
 use Rattle.std.specs.Prelude.{slice_get}
 use Rattle.std.proofs.lemmas.List.{get_or_read}
 use Rattle.report_text.specs.Words.{Line}
@@ -70,6 +70,13 @@ site_there c s i l is below on =
       place = p;
     }) in
     mapped_there (script_file_of c.supers.now) c.files.now i s.file.now l is ∙ ap made place
+
+-- an inode without a file has no records
+pub none_numbered : (c : Context) (i : ℕ) (inode : EndedInodeValue)
+    → slice_get (script_files_in c) i ≡ None → numbered_lines c i inode ≡ []
+none_numbered c i inode none =
+    ap (λ (o : Option ScriptFile). inode_lines (programs_in c) c.rules.now c.settings.now i o inode)
+    none
 
 -- the records of the journal of a site are those of the inode of its number
 pub numbered : (c : Context) (s : Site) (i : ℕ) (inode : EndedInodeValue) (j : List Event)

@@ -1,6 +1,7 @@
 -- The pieces of a trail, as the code appends them, make its lines.
-use Rattle.std.proofs.Common.{◌≡◌, ℕ, suc, ◌+◌, ◌<◌, ◌≤◌, List, [], ◌∷◌, ◌++◌, length, drop, get_or, codes, sym, ◌∙◌, ap, arith, append_assoc, drop-cons, length-append}
+use Rattle.std.proofs.Common.{◌≡◌, ℕ, suc, ◌+◌, ◌<◌, ◌≤◌, List, [], ◌∷◌, ◌++◌, length, drop, get_or, codes, cond, Result, Ok, Err, sym, ◌∙◌, ap, arith, append_assoc, drop-cons, length-append}
 use Rattle.std.specs.List.{join_with_byte}
+use Rattle.std.specs.Result.{OnOk, is_ok}
 use Rattle.std.proofs.lemmas.Grind.{flat_map-append}
 use Rattle.std.proofs.lemmas.List.{append-nil, drop_all}
 use Rattle.hex.specs.Hex.{encode_lower}
@@ -99,13 +100,23 @@ counts_end lines none total count xs i le h =
 
 -- ---- the whole trail
 
+trail_gather : (o h e b f : List ℕ) → (((o ++ h) ++ e) ++ b) ++ f ≡ o ++ ((h ++ e) ++ (b ++ f))
+trail_gather o h e b f = simp append_assoc
+
 -- the pieces of the trail, as the code appends them, are the trail
-pub trail_pushed : (count : ℕ) (body : List ℕ) (ls : List Line) → count ≡ length ls
+pub trail_pushed : (o : List ℕ) (count : ℕ) (body : List ℕ) (ls : List Line) → count ≡ length ls
     → body ≡ text_of ls
-    → (([] ++ join_with_byte 32 (codes "trail" ∷ numeral count ∷ [])) ++ codes "\n")
-    ++ (body ++ codes "end\n") ≡ text_of (trail_lines ls)
-trail_pushed count body ls c b =
-    (λ i. (([] ++ join_with_byte 32 (codes "trail" ∷ numeral (c i) ∷ [])) ++ codes "\n")
-    ++ (b i ++ codes "end\n"))
-    ∙ ap (λ (l : List ℕ). line_text (codes "trail" ∷ numeral (length ls) ∷ []) ++ l)
+    → (((o ++ join_with_byte 32 (codes "trail" ∷ numeral count ∷ [])) ++ codes "\n") ++ body)
+    ++ codes "end\n" ≡ o ++ text_of (trail_lines ls)
+trail_pushed o count body ls c b =
+    trail_gather o (join_with_byte 32 (codes "trail" ∷ numeral count ∷ [])) (codes "\n") body
+    (codes "end\n")
+    ∙ (λ i. o ++ (line_text (codes "trail" ∷ numeral (c i) ∷ []) ++ (b i ++ codes "end\n")))
+    ∙ ap (λ (l : List ℕ). o ++ (line_text (codes "trail" ∷ numeral (length ls) ∷ []) ++ l))
     (sym (flat_map-append line_text ls ((codes "end" ∷ []) ∷ [])))
+
+-- the last piece, if it was appended
+pub last_pushed : {E Q : Type 0} (r : Result (Unit {0}) E) (old more new : List ℕ)
+    → new ≡ cond (is_ok r) (old ++ more) old → (new ≡ old ++ more → Q) → OnOk r Q
+last_pushed (Ok v) old more new e f = f e
+last_pushed (Err x) old more new e f = tt

@@ -11,7 +11,7 @@ ghost use Rattle.audit_trail.specs.Walk.{IsCached, IsWalk, StillWalks};
 
 use crate::asked::lines_for;
 use crate::records::push_records;
-use crate::site::{Context, Site};
+use crate::site::{Context, Site, site_of};
 use crate::walk::Walk;
 use inode_events::{Deed, EndedInode, Event};
 use std::alloc::{AllocError as OutOfMemory, Global};
@@ -87,16 +87,8 @@ fn push_inode(
     ensures count { IfOk result (λ n. n ≡ length (numbered_lines context.now number inode.now)) }
     ensures grows { IfOk result (λ n. vec_len out.old + n ≤ vec_len out.new) }
 {
-    let Some(file) = context.files.get(number) else {
+    let Some(site) = site_of(context, number) else {
         return Ok(0);
-    };
-    let Some(system) = context.supers.get(file.fs as usize) else {
-        unreachable!()
-    };
-    let site = Site {
-        number: number as u64,
-        file,
-        system,
     };
     let journal = inode.journal.as_slice();
     let mut walk = Walk::new(alloc);

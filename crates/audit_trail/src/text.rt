@@ -1,6 +1,7 @@
 // The trail as a text.
 
-ghost use Rattle.std.specs.Prelude.{◌≡◌, ◌++◌, IfOk, OnOk};
+ghost use Rattle.std.specs.Prelude.{◌≡◌, ◌++◌, length, List, IfOk, OnOk};
+ghost use Rattle.report_text.specs.Words.{Line};
 ghost use Rattle.script_scene.specs.Scene.{IsForFiles, scene_of};
 ghost use Rattle.world_model.specs.model.events.forms.Words.{text_of};
 ghost use Rattle.world_model.specs.model.rules.Policy.{rules_in};
@@ -31,12 +32,20 @@ fn trail_by(
 {
     let mut lines = Vec::new(alloc);
     let count = push_inodes(alloc, &mut lines, context, inodes)?;
-    lines.extend_from_slice(b"end\n")?;
     let mut out = Vec::new(alloc);
-    push_numbers(&mut out, b"trail", &[count])?;
-    out.extend_from_slice(b"\n")?;
-    out.extend_from_slice(lines.as_slice())?;
+    push_trail(&mut out, count, lines.as_slice())?;
     Ok(out)
+}
+
+// Appends how many records there are, the records, and `end`.
+fn push_trail(out: &mut Vec<u8>, count: u64, lines: &[u8]) -> Result<(), OutOfMemory>
+    ensures { (ls : List Line) → count ≡ length ls → lines.now ≡ text_of ls
+        → OnOk result (out.new.items ≡ out.old.items ++ text_of (trail_lines ls)) }
+{
+    push_numbers(out, b"trail", &[count])?;
+    out.extend_from_slice(b"\n")?;
+    out.extend_from_slice(lines)?;
+    out.extend_from_slice(b"end\n")
 }
 
 // Appends the rules of these entries.
