@@ -3,6 +3,7 @@
 ghost use Rattle.std.specs.Prelude.{◌≡◌, ◌+◌, ◌<◌, [], ◌∷◌, length, drop, slice_get, slice_index, MatchOption, IfOk};
 ghost use Rattle.view_sentences.specs.Alike as spec;
 
+use crate::holders::add_if;
 use report_read::{Deed, Event, Outcome};
 use std::alloc::{AllocError as OutOfMemory, Global};
 use view_journal::Window;
@@ -234,9 +235,9 @@ pub fn differing(
 {
     let mut places = Vec::new(alloc);
     for (place, event) in mine.iter().enumerate() {
-        if is_differing(text, mine, other, windows, place as u32, *event) {
-            places.push(place as u32)?;
-        }
+        let place = place as u32;
+        let differs = is_differing(text, mine, other, windows, place, *event);
+        add_if(differs, &mut places, place)?;
     }
     Ok(places)
 }

@@ -48,12 +48,13 @@ fn walked(alloc: Global, journal: &[Event]) -> Result<Walk, OutOfMemory>
     Ok(walk)
 }
 
-fn add_if(holds: bool, holders: &mut Vec<u32>, place: u32) -> Result<(), OutOfMemory>
-    ensures { OnOk result (holders.new.items
-        ≡ (if holds then holders.old.items ++ place ∷ [] else holders.old.items)) }
+/// Appends the place if it counts.
+pub fn add_if(counts: bool, places: &mut Vec<u32>, place: u32) -> Result<(), OutOfMemory>
+    ensures { OnOk result (places.new.items
+        ≡ (if counts then places.old.items ++ place ∷ [] else places.old.items)) }
 {
-    if holds {
-        holders.push(place)?;
+    if counts {
+        places.push(place)?;
     }
     Ok(())
 }
@@ -88,8 +89,7 @@ fn holders_by(
         ≡ reverse (held_by (spec.holds holding) file (files (reverse journal.now)))) }
 {
     let walk = walked(alloc, journal)?;
-    let holders = holders_in(alloc, holding, file, walk.held())?;
-    Ok(holders)
+    holders_in(alloc, holding, file, walk.held())
 }
 
 /// The holders of the file at a violation after these events, in the order in which they opened

@@ -99,8 +99,7 @@ fn push_after_comma(
         (spec.comma_by n ++ spec.holder journal.now file)) }
 {
     push_comma(out, text, n)?;
-    push_holder(out, text, journal, file)?;
-    Ok(())
+    push_holder(out, text, journal, file)
 }
 
 fn push_named(
@@ -142,8 +141,7 @@ fn push_holders(
         Part::Told(Told::And),
         more,
         Part::Told(Told::More),
-    )?;
-    Ok(())
+    )
 }
 
 /// Appends the holders of the file at a violation.
@@ -161,6 +159,5 @@ pub fn push_holders_at(
         (spec.named journal.now (spec.holders_at journal.now place event))) }
 {
     let files = holders(alloc, &journal[..place], event)?;
-    push_holders(out, text, journal, &files)?;
-    Ok(())
+    push_holders(out, text, journal, &files)
 }

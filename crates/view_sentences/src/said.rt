@@ -66,8 +66,7 @@ fn push_tomtou(
     let used = use_of(opener(journal, file_of(event.deed)));
     push_opened(out, text, event, Told::OpenedFor, used, Told::Measured)?;
     push_holders_at(alloc, out, text, journal, place, event)?;
-    push_entry(out, text, entry, Told::ToMToU)?;
-    Ok(())
+    push_entry(out, text, entry, Told::ToMToU)
 }
 
 fn push_open_writers(
@@ -87,8 +86,7 @@ fn push_open_writers(
     let used = use_of(opener(journal, file_of(event.deed)));
     push_opened(out, text, event, Told::OpenedToMeasure, used, Told::HeldBy)?;
     push_holders_at(alloc, out, text, journal, place, event)?;
-    push_entry(out, text, entry, Told::OpenWriters)?;
-    Ok(())
+    push_entry(out, text, entry, Told::OpenWriters)
 }
 
 // What wasn't admitted, opened or done.
@@ -198,8 +196,7 @@ fn push_stale(
         (Pushed text.now out.old.items out.new.items (spec.stale journal.now place event)) }
 {
     push_not_as_hashed(out, text, event)?;
-    push_writer(out, text, journal, last_write(&journal[..place]))?;
-    Ok(())
+    push_writer(out, text, journal, last_write(&journal[..place]))
 }
 
 /// The verdict is a denial.

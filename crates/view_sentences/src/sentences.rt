@@ -86,8 +86,7 @@ fn push_sentence_by(
     push_event_link(out, text, drawn, view, place)?;
     push_parts(out, text, &[Part::Told(Told::Is)])?;
     push_said(alloc, out, text, journal, place as usize, event)?;
-    push_parts(out, text, &[Part::Told(Told::ItemEnd)])?;
-    Ok(())
+    push_parts(out, text, &[Part::Told(Told::ItemEnd)])
 }
 
 // The sentence of the event at a place.
@@ -152,8 +151,7 @@ fn push_list_of(
         n.saturating_sub(MOST_TOLD),
         Part::Told(Told::MoreItemsEnd),
     )?;
-    push_parts(out, text, &[Part::Told(Told::ListEnd)])?;
-    Ok(())
+    push_parts(out, text, &[Part::Told(Told::ListEnd)])
 }
 
 fn push_list_by(
@@ -192,6 +190,5 @@ pub fn push_sentences(
 {
     let tales = told_places(alloc, journal)?;
     let n = tales.n;
-    push_list_by(alloc, out, text, view, journal, windows, &tales.places, n)?;
-    Ok(())
+    push_list_by(alloc, out, text, view, journal, windows, &tales.places, n)
 }

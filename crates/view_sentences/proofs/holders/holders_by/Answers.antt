@@ -1,5 +1,6 @@
 use Rattle.std.proofs.Common.{ℕ, List, length, ap, ◌∙◌, arith}
 use Rattle.std.specs.Prelude.{reverse}
+use Rattle.std.proofs.lemmas.Result.{IfOk-weaker}
 use Rattle.view_page.specs.journals.Sentences.{held_by}
 use Rattle.view_page.specs.journals.Walk.{Walk, start}
 use Rattle.view_page.specs.journals.reading.words.declared.event.Kind.{Kind}
@@ -18,7 +19,9 @@ holders_in-requires c =
 
 pub returns : goal.returns
 returns c =
-    c.in_ok-holders.ensures
+    IfOk-weaker c.holders_in.result _ _
+    (λ v found. found
     ∙ ap (λ (hs : List (ℕ × Kind)). reverse (held_by (holds c.args.holding) c.args.file hs))
     (ap held_files (c.held.ensures ∙ ap (λ (w : Walk). w.held) c.in_ok-walk.ensures)
-    ∙ files_by_walk c.args.journal.now)
+    ∙ files_by_walk c.args.journal.now))
+    c.holders_in.ensures

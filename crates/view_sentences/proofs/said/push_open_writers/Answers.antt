@@ -1,4 +1,5 @@
 use Rattle.std.proofs.Common.{ap, ◌∙◌}
+use Rattle.std.proofs.lemmas.Result.{on_ok_weaker}
 use Rattle.view_sentences.specs.Alike.{opener}
 use Rattle.view_sentences.specs.Sentences.{opened, use_of}
 use Rattle.view_page.specs.declared.told.Told.{Told}
@@ -8,8 +9,10 @@ use Rattle.view_sentences.proofs.said.push_open_writers.Goals as goal
 
 pub returns : goal.returns
 returns c =
-    as_parts c.in_ok-push_opened.ensures
+    on_ok_weaker c.push_entry.result
+    (λ pushed. as_parts c.in_ok-push_opened.ensures
     (ap (λ (t : Told). opened c.args.event told.OpenedToMeasure t told.HeldBy)
     (c.use_of-used.ensures ∙ ap use_of (c.opener.ensures
     ∙ ap (opener c.args.journal.now) c.file_of.ensures)))
-    ▹ c.in_ok-push_holders_at.ensures ▹ c.in_ok-push_entry.ensures
+    ▹ c.in_ok-push_holders_at.ensures ▹ pushed)
+    c.push_entry.ensures
