@@ -63,8 +63,7 @@ fn push_path_of(out: &mut Vec<u8>, text: &[u8], head: InodeHead) -> Result<(), O
     ensures { OnOk result
         (Pushed text.now out.old.items out.new.items (spec.path_of text.now head)) }
 {
-    push_said(out, text, cut(80, path(text, head)))?;
-    Ok(())
+    push_said(out, text, cut(80, path(text, head)))
 }
 
 // The path of the inode of this number.
@@ -98,8 +97,7 @@ fn push_call_by(
     let line = cut(80, after_word(text, after_word(text, at.line)));
     push_linked(out, text, side, shown, at, call)?;
     push_said(out, text, line)?;
-    push_path(out, text, inodes, at.inode as usize)?;
-    Ok(())
+    push_path(out, text, inodes, at.inode as usize)
 }
 
 fn push_call_at(
@@ -164,8 +162,7 @@ fn push_chip(
 {
     push_parts(out, text, &[chip_is(reply.ok)])?;
     push_call_at(out, text, side, shown, inodes, at, call)?;
-    push_reply(out, text, reply.line)?;
-    Ok(())
+    push_reply(out, text, reply.line)
 }
 
 // The call of this number after so many that weren't ok, if it is shown.
@@ -241,8 +238,7 @@ fn push_chips(
         (spec.chips text.now side shown.now inodes.now task replies.now)) }
 {
     let firsts = firsts(alloc, task, replies.len(), inodes)?;
-    push_chips_of(out, text, side, shown, inodes, &firsts, replies)?;
-    Ok(())
+    push_chips_of(out, text, side, shown, inodes, &firsts, replies)
 }
 
 fn push_cut_calls(out: &mut Vec<u8>, text: &[u8], n: u64) -> Result<(), OutOfMemory>
@@ -304,8 +300,7 @@ fn push_task_by(
     push_chips(alloc, out, text, side, shown, inodes, number, replies)?;
     push_cut_calls(out, text, replies.len() as u64)?;
     push_waits(out, text, done, replies.len() as u64)?;
-    push_parts(out, text, &[Part::Table(Table::RowEnd)])?;
-    Ok(())
+    push_parts(out, text, &[Part::Table(Table::RowEnd)])
 }
 
 fn push_task(
@@ -381,6 +376,5 @@ pub fn push_calls(
         Part::Table(Table::More),
         more,
         Part::Table(Table::MoreEnd),
-    )?;
-    Ok(())
+    )
 }

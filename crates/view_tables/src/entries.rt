@@ -123,8 +123,7 @@ fn push_by_event(
         (Pushed text.now out.old.items out.new.items (spec.by_event text.now side shown.now at)) }
 {
     push_event(out, text, side, shown, at)?;
-    push_said(out, text, cut(80, after_word(text, at.line)))?;
-    Ok(())
+    push_said(out, text, cut(80, after_word(text, at.line)))
 }
 
 /// Appends what an event or a call says.
@@ -260,8 +259,7 @@ fn push_row(
     push_digest(out, text, violates, word_3(text, line))?;
     push_row_name(out, text, line)?;
     push_by(out, text, side, shown, place, at)?;
-    push_parts(out, text, &[Part::Table(Table::RowEnd)])?;
-    Ok(())
+    push_parts(out, text, &[Part::Table(Table::RowEnd)])
 }
 
 /// Of a long list the first 50 are shown, and the first so many of those that are marked.
@@ -359,6 +357,5 @@ pub fn push_entries(
     push_parts(out, text, &[Part::Table(Table::List)])?;
     push_rows(out, text, side, shown, added, lines)?;
     push_parts(out, text, &[Part::Table(Table::ListEnd)])?;
-    push_hidden(out, text, lines.len() as u64)?;
-    Ok(())
+    push_hidden(out, text, lines.len() as u64)
 }

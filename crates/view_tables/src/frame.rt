@@ -32,8 +32,7 @@ pub fn push_tiles(out: &mut Vec<u8>, text: &[u8], report: &Report) -> Result<(),
     push_parts(out, text, &[Part::Frame(Frame::Tiles)])?;
     push_run(out, text, report.run)?;
     push_counts(out, text, report)?;
-    push_parts(out, text, &[Part::Frame(Frame::TilesEnd)])?;
-    Ok(())
+    push_parts(out, text, &[Part::Frame(Frame::TilesEnd)])
 }
 
 fn push_run(out: &mut Vec<u8>, text: &[u8], run: RunEnd) -> Result<(), OutOfMemory>
@@ -67,8 +66,7 @@ fn push_counts(out: &mut Vec<u8>, text: &[u8], report: &Report) -> Result<(), Ou
     push_tile(out, text, refused > 0, refused, Frame::Refused)?;
     push_tile(out, text, false, report.inodes.len() as u64, Frame::Inodes)?;
     push_tile(out, text, false, report.tasks.len() as u64, Frame::Tasks)?;
-    push_tile(out, text, false, events, Frame::Events)?;
-    Ok(())
+    push_tile(out, text, false, events, Frame::Events)
 }
 
 fn push_tile(

@@ -48,8 +48,7 @@ pub fn push_registers(out: &mut Vec<u8>, text: &[u8], lines: &[Span]) -> Result<
 {
     push_parts(out, text, &[Part::Table(Table::Registers)])?;
     push_register_rows(out, text, lines)?;
-    push_parts(out, text, &[Part::Table(Table::TableEnd)])?;
-    Ok(())
+    push_parts(out, text, &[Part::Table(Table::TableEnd)])
 }
 
 fn push_rule(out: &mut Vec<u8>, text: &[u8], line: Span) -> Result<(), OutOfMemory>
@@ -88,8 +87,7 @@ fn push_rules_shown(out: &mut Vec<u8>, text: &[u8], lines: &[Span]) -> Result<()
         Part::Table(Table::More),
         more,
         Part::Table(Table::MoreEnd),
-    )?;
-    Ok(())
+    )
 }
 
 /// Appends the rules that were appended during the run, if there are any.

@@ -1,4 +1,5 @@
 use Rattle.std.proofs.Common.{ap, ◌∙◌}
+use Rattle.std.proofs.lemmas.Result.{on_ok_weaker}
 use Rattle.view_tables.specs.Entries.{said}
 use Rattle.view_page.specs.Words.{cut}
 use Rattle.view_page.proofs.Joined.{as_parts}
@@ -6,4 +7,6 @@ use Rattle.view_tables.proofs.calls.push_path_of.Goals as goal
 
 pub returns : goal.returns
 returns c =
-    as_parts c.in_ok-push_said.ensures (ap said (c.cut.ensures ∙ ap (cut 80) c.path.ensures))
+    on_ok_weaker c.push_said.result
+    (λ pushed. as_parts pushed (ap said (c.cut.ensures ∙ ap (cut 80) c.path.ensures)))
+    c.push_said.ensures
