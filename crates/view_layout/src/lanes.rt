@@ -129,8 +129,25 @@ fn push_seats(
     ensures small { IfOk result (λ h. h ≤ 5500) }
 {
     let own = own(alloc, task, bars)?;
-    let rows = rows_of(alloc, &own)?;
-    push_rows(seats, top, &own, &rows)?;
+    push_own(alloc, seats, top, &own)
+}
+
+// Bars that are all of one task. The result is the height of its lane.
+fn push_own(
+    alloc: Global,
+    seats: &mut Vec<Seat>,
+    top: u32,
+    bars: &[Bar],
+) -> Result<u32, OutOfMemory>
+    requires top { top ≤ 2000000000 }
+    requires bars { length bars.now ≤ 240 }
+    ensures is { IfOk result (λ h. seats.new.items
+        ≡ seats.old.items ++ spec.seats_of top bars.now (rows (extents bars.now))) }
+    ensures height { IfOk result (λ h. h ≡ spec.height_of (rows (extents bars.now))) }
+    ensures small { IfOk result (λ h. h ≤ 5500) }
+{
+    let rows = rows_of(alloc, bars)?;
+    push_rows(seats, top, bars, &rows)?;
     Ok(height_of(&rows))
 }
 

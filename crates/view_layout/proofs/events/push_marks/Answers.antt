@@ -1,7 +1,8 @@
 use Rattle.std.proofs.Common.{[], ◌∷◌, ◌++◌, ap, ◌∙◌}
+use Rattle.list_lemmas.proofs.Appending.{one_more}
 use Rattle.view_journal.specs.declared.items.Item.{Item}
 use Rattle.view_layout.specs.Drawing.{mark_items}
-use Rattle.view_layout.proofs.Appended.{no_column, one_more}
+use Rattle.view_layout.proofs.NoItems.{no_column}
 use Rattle.view_layout.proofs.events.push_marks.Goals as goal
 
 pub loop-column-preserved : goal.loop-column-preserved

@@ -1,6 +1,7 @@
 use Rattle.std.proofs.Common.{[]}
+use Rattle.list_lemmas.proofs.Appending.{one_more}
 use Rattle.view_layout.specs.Flags.{noted_at}
-use Rattle.view_layout.proofs.Appended.{no_column, one_more}
+use Rattle.view_layout.proofs.NoItems.{no_column}
 use Rattle.view_layout.proofs.flags.notes_of.Goals as goal
 
 pub loop-column-preserved : goal.loop-column-preserved

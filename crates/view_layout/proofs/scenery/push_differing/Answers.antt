@@ -1,0 +1,10 @@
+use Rattle.list_lemmas.proofs.Appending.{one_more}
+use Rattle.view_layout.specs.Drawing.{differing_items}
+use Rattle.view_layout.proofs.NoItems.{no_column}
+use Rattle.view_layout.proofs.scenery.push_differing.Goals as goal
+
+pub loop-column-preserved : goal.loop-column-preserved
+loop-column-preserved c =
+    one_more c.args.items.now.items (differing_items c.args.differs.now c.args.bottom) c.args.columns.now
+    c.loop-column.column-index no_column c.loop-column-test.true c.loop-column.invariant
+    c.in_ok-push_differing_at.ensures

@@ -1,0 +1,10 @@
+use Rattle.list_lemmas.proofs.Appending.{one_more}
+use Rattle.view_layout.specs.Drawing.{end_of, lane_items}
+use Rattle.view_layout.proofs.NoItems.{no_lane}
+use Rattle.view_layout.proofs.scenery.push_lane_items.Goals as goal
+
+pub loop-lane-preserved : goal.loop-lane-preserved
+loop-lane-preserved c =
+    one_more c.args.items.now.items (lane_items (end_of c.args.columns.now)) c.args.lanes.now
+    c.loop-lane.lane-index no_lane c.loop-lane-test.true c.loop-lane.invariant
+    (rw c.end_of.ensures.is at c.in_ok-push_lane.ensures)
