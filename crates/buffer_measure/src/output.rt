@@ -1,10 +1,11 @@
 //! The output of a run of buffers.
 
-ghost use Rattle.std.specs.Prelude.{◌≡◌, ◌∷◌, ◌++◌, IfOk, OnOk};
+ghost use Rattle.std.specs.Prelude.{◌≡◌, ◌∷◌, ◌++◌, length, IfOk, OnOk};
 ghost use Rattle.std.specs.List.{join_with_byte};
 ghost use Rattle.report_text.specs.Numerals.{numeral};
 ghost use Rattle.report_text.specs.Texts.{line_text};
 ghost use Rattle.script_text.specs.events.forms.Words.{text_of};
+ghost use Rattle.buffer_measure.specs.Parts.{entries_text};
 ghost use Rattle.buffer_measure.specs.Print.{all_caller_lines, answer_lines, answer_words, caller_lines, head_lines, printed, rest_lines};
 
 use crate::answer::Answer;
@@ -42,42 +43,45 @@ pub fn print_in_pieces<R: Threads + Sync>(
 ) -> Result<Pieces, OutOfMemory>
     ensures { IfOk result (λ out. out ≡ printed r) }
 {
-    let BufferRun {
-        list,
-        banks,
-        answers,
-    } = r;
-    let entries = list.as_slice();
-    let head = head_of(alloc, entries.len() as u64)?;
-    let rest = rest_of(alloc, entries, &banks, answers.as_slice())?;
-    let mut out = Pieces::new(alloc);
-    out.push(head)?;
-    push_lines(rt, alloc, &mut out, list, threads)?;
-    out.push(rest)?;
-    Ok(out)
+    let head = head_of(alloc, &r)?;
+    let rest = rest_of(alloc, &r)?;
+    in_pieces(rt, alloc, head, r.list, rest, threads)
 }
 
-// The first two lines, of a run whose list has this number of entries.
-fn head_of(alloc: Global, entries: u64) -> Result<Vec<u8>, OutOfMemory>
-    ensures { IfOk result (λ out. out.items ≡ text_of (head_lines entries)) }
+// The first two lines.
+fn head_of(alloc: Global, r: &BufferRun) -> Result<Vec<u8>, OutOfMemory>
+    ensures { IfOk result (λ out. out.items ≡ text_of (head_lines (length r.now.list))) }
 {
     let mut out = Vec::new(alloc);
-    push_head(&mut out, entries)?;
+    push_head(&mut out, r.list.len() as u64)?;
     Ok(out)
 }
 
 // The lines after the list.
-fn rest_of(
-    alloc: Global,
-    list: &[Entry],
-    banks: &Banks,
-    callers: &[Answers],
-) -> Result<Vec<u8>, OutOfMemory>
+fn rest_of(alloc: Global, r: &BufferRun) -> Result<Vec<u8>, OutOfMemory>
     ensures { IfOk result (λ out. out.items
-        ≡ text_of (rest_lines list.now banks.now callers.now)) }
+        ≡ text_of (rest_lines r.now.list r.now.banks r.now.answers)) }
 {
     let mut out = Vec::new(alloc);
-    push_rest(&mut out, list, banks, callers)?;
+    push_rest(&mut out, r.list.as_slice(), &r.banks, r.answers.as_slice())?;
+    Ok(out)
+}
+
+// The lines of the list between those before and after them.
+fn in_pieces<R: Threads + Sync>(
+    rt: &R,
+    alloc: Global,
+    head: Vec<u8>,
+    list: Vec<Entry>,
+    rest: Vec<u8>,
+    threads: usize,
+) -> Result<Pieces, OutOfMemory>
+    ensures { IfOk result (λ out. out ≡ (head.items ++ entries_text list.items) ++ rest.items) }
+{
+    let mut out = Pieces::new(alloc);
+    out.push(head)?;
+    push_lines(rt, alloc, &mut out, list, threads)?;
+    out.push(rest)?;
     Ok(out)
 }
 

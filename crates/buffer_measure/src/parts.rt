@@ -1,6 +1,6 @@
 //! The lines of a list, made in parts on threads.
 
-ghost use Rattle.std.specs.Prelude.{◌≡◌, ◌+◌, ◌*◌, ◌<◌, ◌≤◌, ◌++◌, IfOk, OnOk, length, max};
+ghost use Rattle.std.specs.Prelude.{◌≡◌, ◌+◌, ◌*◌, ◌<◌, ◌≤◌, ◌∷◌, ◌++◌, [], IfOk, OnOk, length, max};
 ghost use Rattle.std.specs.List.{AllByRecursion, flat_map};
 ghost use Rattle.buffer_measure.specs.Parts.{ArePartsOf, IsMade, IsPart, entries_in, entries_text, part_bytes};
 
@@ -50,11 +50,32 @@ fn jobs_of(alloc: Global, list: Vec<Entry>, threads: usize) -> Result<Vec<Vec<En
     let mut jobs = Vec::new(alloc);
     let mut job = Vec::with_capacity(alloc, size)?;
     for entry in list {
-        close_full(alloc, &mut jobs, &mut job, size)?;
-        job.push(entry)?;
+        put(alloc, &mut jobs, &mut job, size, entry)?;
     }
     jobs.push(job)?;
     Ok(jobs)
+}
+
+// Appends the entry to the part, or to the next one if the part is full.
+fn put(
+    alloc: Global,
+    jobs: &mut Vec<Vec<Entry>>,
+    job: &mut Vec<Entry>,
+    size: usize,
+    entry: Entry,
+) -> Result<(), OutOfMemory>
+    requires some { 1 ≤ size }
+    requires most { length job.old.items ≤ size }
+    ensures entries { OnOk result (flat_map entries_in jobs.new.items ++ job.new.items
+        ≡ (flat_map entries_in jobs.old.items ++ job.old.items) ++ entry ∷ []) }
+    ensures sum { OnOk result (length jobs.new.items * size + length job.new.items
+        ≡ length jobs.old.items * size + length job.old.items + 1) }
+    ensures some { OnOk result (1 ≤ length job.new.items) }
+    ensures most { OnOk result (length job.new.items ≤ size) }
+{
+    close_full(alloc, jobs, job, size)?;
+    job.push(entry)?;
+    Ok(())
 }
 
 // Appends the part to the others if it is full, and begins the next one.

@@ -1,6 +1,8 @@
-use Rattle.std.proofs.Common.{◌≡◌, ap, length, map, refl}
+use Rattle.std.proofs.Common.{◌≡◌, ◌++◌, ap, ◌∙◌, length, map, refl}
+use Rattle.std.proofs.lemmas.Result.{IfOk-weaker}
 use Rattle.report_text.specs.Report.{entry_words}
-use Rattle.buffer_measure.specs.Print.{head_lines, rest_lines}
+use Rattle.buffer_measure.specs.Parts.{entries_text}
+use Rattle.buffer_measure.specs.Print.{head_lines, printed, rest_lines}
 use Rattle.buffer_measure.specs.Run.{RunValue}
 use Rattle.buffer_measure.proofs.Printing.{run_pushed}
 use Rattle.buffer_measure.proofs.output.print_in_pieces.Goals as goal
@@ -9,21 +11,12 @@ pub returns : goal.returns
 returns g c =
     let r = c.args.r in
     let list_is : c.r.inside.list.items ≡ r.list = ap (λ (v : RunValue). v.list) c.r.view_is in
-    let banks_are : c.r.inside.banks ≡ r.banks = ap (λ (v : RunValue). v.banks) c.r.view_is in
-    let answers_are : c.r.inside.answers.items ≡ r.answers =
-    ap (λ (v : RunValue). v.answers) c.r.view_is in
-    rw (
-      c.in_ok-push-2.ensures,
-      c.in_ok-push_lines.ensures,
-      c.in_ok-push.ensures,
-      c.in_ok-rest.ensures,
-      c.in_ok-head.ensures,
-      c.new-out.ensures,
-      c.as_slice-entries.ensures.value,
-      c.as_slice.ensures.value,
-      list_is,
-      banks_are,
-      answers_are,
-    )
+    let is : (c.in_ok-head.head.items ++ entries_text c.r.inside.list.items)
+    ++ c.in_ok-rest.rest.items ≡ printed r =
+    rw (c.in_ok-rest.ensures, c.in_ok-head.ensures, list_is)
     (run_pushed (head_lines (length r.list)) (map entry_words r.list)
-    (rest_lines r.list r.banks r.answers) _ refl)
+    (rest_lines r.list r.banks r.answers) _ refl) in
+    IfOk-weaker c.in_pieces.result
+    (λ out. out ≡ (c.in_ok-head.head.items ++ entries_text c.r.inside.list.items)
+    ++ c.in_ok-rest.rest.items) (λ out. out ≡ printed r) (λ out made. made ∙ is)
+    c.in_pieces.ensures

@@ -39,6 +39,18 @@ answer_line-requires-clause-line g c =
     λ κs out. subst (λ (line : Buffer). is_buffer line ≡ true) (sym at.2)
     (c.requires.lines n c.in-Some.line at.1)
 
+pub returns-in_err-answer-clause-same : goal.returns-in_err-answer-clause-same
+returns-in_err-answer-clause-same g c = record {
+  name = c.answer_line.ensures.same.name ∙ c.loop-k.invariant.same.name;
+  number = c.answer_line.ensures.same.number ∙ c.loop-k.invariant.same.number;
+}
+
+pub returns-in_err-push-clause-same : goal.returns-in_err-push-clause-same
+returns-in_err-push-clause-same g c = record {
+  name = c.answer_line.ensures.same.name ∙ c.loop-k.invariant.same.name;
+  number = c.answer_line.ensures.same.number ∙ c.loop-k.invariant.same.number;
+}
+
 pub loop-k-preserved : goal.loop-k-preserved
 loop-k-preserved g c =
     let t = YieldsList-turn
@@ -61,6 +73,9 @@ loop-k-preserved g c =
           c.in_ok-answer.answer at.1 at.2 c.loop-k.invariant.answered
           c.in_ok-answer.ensures.answered c.in_ok-push.ensures);
     }
+
+pub returns-clause-same : goal.returns-clause-same
+returns-clause-same g c = c.loop-k.invariant.same
 
 pub returns-clause-answered : goal.returns-clause-answered
 returns-clause-answered g c =
