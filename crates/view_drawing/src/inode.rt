@@ -1,6 +1,7 @@
 // The drawing of an inode.
 
-ghost use Rattle.std.specs.Prelude.{◌≡◌, ◌++◌, ◌<◌, ◌^◌, [], length, IfOk, OnOk};
+ghost use Rattle.std.specs.Prelude.{◌≡◌, ◌++◌, ◌∷◌, ◌<◌, ◌^◌, [], length, IfOk, OnOk};
+ghost use Rattle.view_layout.specs.Drawing.{items_of};
 ghost use Rattle.view_layout.specs.SketchView.{parts_in};
 ghost use Rattle.view_drawing.specs.Drawing as spec;
 ghost use Rattle.view_page.specs.Pieces.{page_of};
@@ -31,10 +32,8 @@ pub fn push_inode(
         (spec.inode_pieces view journal.now windows.now differs.now)) }
 {
     let sketch = draft(alloc, windows, journal)?;
-    let mut pieces = Vec::new(alloc);
-    push_parts(alloc, &mut pieces, view, &[], sketch.parts(), differs)?;
-    push_pieces(out, text, &pieces)?;
-    Ok(())
+    let pieces = pieces_of(alloc, view, &[], sketch.parts(), differs)?;
+    push_pieces(out, text, &pieces)
 }
 
 /// One file with the drawing of an inode's journal: of the places of a range, or of its windows.
@@ -50,20 +49,20 @@ pub fn svg(
 {
     let windows = windows_or(alloc, range, journal)?;
     let sketch = draft(alloc, &windows, journal)?;
-    let mut pieces = Vec::new(alloc);
+    file_of(alloc, text, inode, sketch.parts())
+}
+
+// The file of a drawing with these parts.
+fn file_of(alloc: Global, text: &[u8], inode: u64, parts: Parts<'_>) -> Result<Vec<u8>, OutOfMemory>
+    ensures { IfOk result (λ v. v.items ≡ page_of text.now
+        (spec.sketch_pieces (spec.view_alone inode) spec.rules_pieces (parts_in parts.entry) [])) }
+{
     let rules = [
         Piece::Own(Own::Style),
         Piece::Own(Own::Rules),
         Piece::Own(Own::StyleEnd),
     ];
-    push_parts(
-        alloc,
-        &mut pieces,
-        view_alone(inode),
-        &rules,
-        sketch.parts(),
-        &[],
-    )?;
+    let pieces = pieces_of(alloc, view_alone(inode), &rules, parts, &[])?;
     let mut out = Vec::new(alloc);
     push_pieces(&mut out, text, &pieces)?;
     Ok(out)
@@ -97,22 +96,49 @@ fn windows_or(
     }
 }
 
-fn push_parts(
+// The pieces of a drawing with these parts.
+fn pieces_of(
     alloc: Global,
-    out: &mut Vec<Piece>,
     view: View,
     extra: &[Piece],
     parts: Parts<'_>,
     differs: &[u32],
-) -> Result<(), OutOfMemory>
-    ensures { OnOk result (out.new.items ≡ out.old.items
-        ++ spec.sketch_pieces view extra.now (parts_in parts.entry) differs.now) }
+) -> Result<Vec<Piece>, OutOfMemory>
+    ensures { IfOk result (λ v. v.items
+        ≡ spec.sketch_pieces view extra.now (parts_in parts.entry) differs.now) }
+{
+    let items = items_of(alloc, parts, differs, view.parts)?;
+    let mut pieces = Vec::new(alloc);
+    push_drawn(&mut pieces, view, extra, parts, &items)?;
+    Ok(pieces)
+}
+
+fn items_of(
+    alloc: Global,
+    parts: Parts<'_>,
+    differs: &[u32],
+    parting: Option<u32>,
+) -> Result<Vec<Item>, OutOfMemory>
+    ensures { IfOk result (λ v. v.items ≡ items_of (parts_in parts.entry) differs.now parting) }
 {
     let mut items = Vec::new(alloc);
-    push_items(&mut items, parts, differs, view.parts)?;
+    push_items(&mut items, parts, differs, parting)?;
+    Ok(items)
+}
+
+fn push_drawn(
+    out: &mut Vec<Piece>,
+    view: View,
+    extra: &[Piece],
+    parts: Parts<'_>,
+    items: &[Item],
+) -> Result<(), OutOfMemory>
+    ensures { OnOk result (out.new.items ≡ out.old.items ++ (spec.head (parts_in parts.entry)
+        ++ (extra.now ++ (spec.items_pieces view items.now ++ Piece.Own Own.SvgEnd ∷ [])))) }
+{
     push_head(out, parts)?;
     add(out, extra)?;
-    add_items(out, view, &items)?;
+    add_items(out, view, items)?;
     add(out, &[Piece::Own(Own::SvgEnd)])
 }
 
