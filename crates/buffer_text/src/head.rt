@@ -1,7 +1,7 @@
 ghost use Rattle.std.specs.Prelude.{◌≡◌};
 ghost use Rattle.buffer_text.specs.Heads.{head_of, rank, repeats};
 
-use call_lines::look_up;
+use text_forms::look_up;
 
 /// The kind of a line of a text of buffers, by its first word.
 #[derive(Clone, Copy)]

@@ -6,11 +6,11 @@ ghost use Rattle.call_lines.specs.Arguments.{flags_of, opened, way_of};
 
 use crate::form::{Form, formed};
 use crate::paths::Paths;
-use crate::table::look_up;
 use call_steps::events::How;
 use script_words::{LineCause, LineErr};
 use std::alloc::Global;
 use std::marker::PhantomData;
+use text_forms::look_up;
 
 /// The forms of the words of a line.
 pub trait Forms {

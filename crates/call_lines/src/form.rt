@@ -5,13 +5,12 @@ ghost use Rattle.script_words.specs.Gives.{LineGives};
 ghost use Rattle.call_lines.specs.Form.{mapping_of};
 
 use crate::paths::Paths;
-use crate::table::look_up;
 use call_steps::events::BoxedBytes;
 use script_words::{
     LineCause, LineErr, descriptor_of, id_of, mode_of, offset_of, portion_of, small_of, value_of,
 };
 use std::alloc::Global;
-use text_forms::{is_path, is_word};
+use text_forms::{is_path, is_word, look_up};
 use xattr_store::Bytes;
 
 /// The form of a word.

@@ -17,4 +17,4 @@ pub use calls::call_of;
 pub use canonical::push_call;
 pub use paths::Paths;
 pub use pushed::{push_hex, push_number, push_octal, push_value, push_word};
-pub use table::{CallWord, call_word_of, look_up};
+pub use table::{CallWord, call_word_of};

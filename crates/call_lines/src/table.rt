@@ -1,8 +1,9 @@
 //! The words with which the lines of calls begin.
 
-ghost use Rattle.std.specs.Prelude.{◌≡◌, map};
-ghost use Rattle.text_forms.specs.Tables.{look_up};
+ghost use Rattle.std.specs.Prelude.{◌≡◌};
 ghost use Rattle.call_lines.specs.Table.{call_word_of};
+
+use text_forms::look_up;
 
 /// The kind of a call's line, by its first word.
 #[derive(Clone, Copy)]
@@ -50,19 +51,6 @@ const CALLS: [(&[u8], CallWord); 19] = [
     (b"module", CallWord::Module),
     (b"firmware", CallWord::Firmware),
 ];
-
-/// The entry of a table under this word, if there is one.
-pub fn look_up<T: Copy>(mut table: &[(&[u8], T)], word: &[u8]) -> Option<T>
-    ensures { result ≡ look_up (map (λ e. (e.0.now, e.1)) table.entry.now) word.now }
-{
-    while let [entry, rest @ ..] = table {
-        if word == entry.0 {
-            return Some(entry.1);
-        }
-        table = rest;
-    }
-    None
-}
 
 /// The kind of a call's line with this first word, if a call has it.
 pub fn call_word_of(word: &[u8]) -> Option<CallWord>

@@ -1,13 +1,12 @@
-ghost use Rattle.std.specs.Prelude.{◌≡◌, map, IfSome, IsTrue};
+ghost use Rattle.std.specs.Prelude.{◌≡◌, IfSome, IsTrue};
 ghost use Rattle.std.specs.Option.{option_map};
-ghost use Rattle.text_forms.specs.Tables.{look_up};
 ghost use Rattle.policy_rules.specs.RuleValue.{has_algos, is_id, is_mask_bit, is_named_template};
 ghost use Rattle.policy_rules.specs.Values.{act_of, algos_of, func_of, id_number_of, id_of, is_unsupported_template, is_unsupported_type, mask_bits_of, mask_of, template_of};
 
 use crate::rule::{Act, Func, IdTest, MaskTest};
 use hash_algos::{AlgoSet, by_name};
 use inode_meta::Template;
-use text_forms::number_of;
+use text_forms::{look_up, number_of};
 
 // The actions by their names.
 const ACTS: [(&[u8], Act); 8] = [
@@ -40,19 +39,6 @@ const FUNCS: [(&[u8], Func); 16] = [
     (b"POLICY_CHECK", Func::PolicyCheck),
     (b"MMAP_CHECK_REQPROT", Func::MmapCheckReqprot),
 ];
-
-// The entry of a table under this word, if there is one.
-fn look_up<T: Copy>(mut table: &[(&[u8], T)], word: &[u8]) -> Option<T>
-    ensures { result ≡ look_up (map (λ e. (e.0.now, e.1)) table.entry.now) word.now }
-{
-    while let [entry, rest @ ..] = table {
-        if word == entry.0 {
-            return Some(entry.1);
-        }
-        table = rest;
-    }
-    None
-}
 
 /// The action with this name, such as `dont_measure`.
 pub fn act_of(word: &[u8]) -> Option<Act>

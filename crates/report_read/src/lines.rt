@@ -8,9 +8,9 @@ use crate::report::{InodeHead, RunEnd};
 use inode_meta::{Template, Who};
 use report_words::{
     Deed, Event, Outcome, Span, after, after_any, after_digest, after_hex, after_named_digest,
-    after_wide_pcr, counted, deed_in, is_named_digest, is_whole, look_up, number_in, outcome_of,
-    who_in,
+    after_wide_pcr, counted, deed_in, is_named_digest, is_whole, number_in, outcome_of, who_in,
 };
+use text_forms::look_up;
 
 const ENDS: [(&[u8], RunEnd); 3] = [
     (b"done", RunEnd::Done),

@@ -8,8 +8,8 @@ ghost use Rattle.report_words.specs.Forms.{after, after_by};
 use crate::acts::check_in;
 use crate::event::{Deed, Kind};
 use crate::forms::{after, after_any, number_in};
-use crate::tables::look_up;
 use script_words::mode_of;
+use text_forms::look_up;
 
 /// The first word of a deed.
 #[derive(Clone, Copy)]

@@ -21,4 +21,4 @@ pub use forms::{
 };
 pub use outcomes::{is_cause, is_set_status, outcome_of};
 pub use std::alloc::AllocError as OutOfMemory;
-pub use tables::{is_among, look_up};
+pub use tables::is_among;

@@ -6,7 +6,8 @@ ghost use Rattle.report_words.specs.Outcomes as spec;
 
 use crate::event::{Deed, Grant, Kind, Outcome, Placed, Verdict};
 use crate::forms::{after, last_number, number_in};
-use crate::tables::{is_among, look_up};
+use crate::tables::is_among;
+use text_forms::look_up;
 
 const COUNTS: [(&[u8], Outcome); 3] = [
     (b"held", Outcome::Held),

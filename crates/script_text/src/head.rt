@@ -1,7 +1,8 @@
 ghost use Rattle.std.specs.Prelude.{◌≡◌};
 ghost use Rattle.script_text.specs.Heads.{head_of, in_order, rank, repeats, section_of};
 
-use call_lines::{CallWord, call_word_of, look_up};
+use call_lines::{CallWord, call_word_of};
+use text_forms::look_up;
 
 /// The kind of a line of a script, by its first word.
 #[derive(Clone, Copy)]

@@ -1,6 +1,6 @@
 use Rattle.std.proofs.Common.{◌≡◌, length, map}
 use Rattle.text_forms.specs.Tables.{look_up}
-use Rattle.report_words.proofs.tables.look_up.Given as goal
+use Rattle.text_forms.proofs.table.look_up.Given as goal
 
 -- the remaining entries decide
 abbrev pub invariant-loop-table : goal.invariant-loop-table
