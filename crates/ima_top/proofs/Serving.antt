@@ -1,9 +1,9 @@
 -- What the status says about a command.
-use Rattle.std.proofs.Common.{◌≡◌, ◌≢◌, ℕ, ◌+◌, ◌<◌, ◌≤◌, ◌↔◌, ◌⊎◌, inl, inr, Bool, true, false, List, [], ◌++◌, Option, Some, None, Err, length, length-append, refl, sym, ap, ◌∙◌, subst, arith}
+use Rattle.std.proofs.Common.{◌≡◌, ◌≢◌, ℕ, ◌+◌, ◌<◌, ◌≤◌, ◌↔◌, ◌⊎◌, inl, inr, Bool, true, false, List, [], Option, Some, None, Err, length, refl, sym, ap, ◌∙◌, subst, arith}
 use Rattle.std.specs.Prelude.{IfSome, IsNone, IsSome}
 use Rattle.std.specs.Io.KnownBytes.{Consumes, IsAtEnd}
-use Rattle.std.proofs.lemmas.List.{append-nil}
 use Rattle.command_line.specs.declared.command.Command.{Command}
+use Rattle.ima_io.proofs.Consuming.{given_whole, given_within, if_each}
 use Rattle.ima_top.specs.NotDone.{not_done_line, not_done_status}
 use Rattle.ima_top.specs.Served.{IsPastReading, OnInput, Performed, Serves, WrotePart, WroteWhole, input_left}
 use Rattle.ima_top.specs.Words.{reads_input}
@@ -181,29 +181,6 @@ served_done (Some command) before after old new told i = record {
 }
 
 -- ---- completeness
-
--- a property that holds of each value that an option may have holds of the option
-if_each : {A : Type 0} (o : Option A) (P : A → Type 0) → ((a : A) → o ≡ Some a → P a) → IfSome o P
-if_each None P h = tt
-if_each (Some a) P h = h a refl
-
--- a source gives at most the bytes that it had left
-given_within : (given left : List ℕ) (before after : Option (List ℕ))
-    → Consumes before after given → before ≡ Some left → length given ≤ length left
-given_within given left None after c e = absurd (cc)
-given_within given left (Some xs) None c e = absurd c
-given_within given left (Some xs) (Some ys) c e =
-    let same : xs ≡ left = cc in
-    omega (arith, ap length (sym same ∙ c), length-append given ys)
-
--- a source that is at its end has given all bytes that it had left
-given_whole : (given left : List ℕ) (before after : Option (List ℕ))
-    → Consumes before after given → IsAtEnd after → before ≡ Some left → given ≡ left
-given_whole given left None after c at e = absurd (cc)
-given_whole given left (Some xs) None c at e = absurd c
-given_whole given left (Some xs) (Some ys) c at e =
-    let same : xs ≡ left = cc in
-    sym (append-nil given) ∙ sym (ap (λ (l : List ℕ). given ++ l) at) ∙ sym c ∙ same
 
 input_within : (reads : Bool) (before after : Option (List ℕ)) (input left : List ℕ)
     → (reads ≡ true → Consumes before after input) → (reads ≡ false → input ≡ [])
