@@ -338,7 +338,7 @@ added_all (a ∷ rest) ns h =
     (added_all rest ns parts.1)
 
 -- if the test passes, the indices of added entries increase along the mentions
-rising : (ms : List Mention) → mentions_rise ms ≡ true → MentionsRise ms
+pub rising : (ms : List Mention) → mentions_rise ms ≡ true → MentionsRise ms
 rising [] h = tt
 rising (m ∷ earlier) h =
     let parts = and_parts (added_above (named m.who m.added) (all_named earlier))

@@ -3,14 +3,14 @@ use Rattle.std.proofs.Common.{◌≡◌, ℕ, zero, suc, ◌<◌, Bool, true, fa
 use Rattle.std.specs.Prelude.{◌==◌, if◌then◌else◌, All, sum_by}
 use Rattle.std.proofs.lemmas.List.Elements.{All-cons, All-contains, All-nil}
 use Rattle.std.proofs.lemmas.Option.{same_Some}
-use Rattle.inode_events.proofs.Deciding.{listed_by}
+use Rattle.inode_events.proofs.Deciding.{listed_by, rising}
 use Rattle.inode_events.specs.Listing.{IsListed, mentions}
 use Rattle.inode_events.specs.Merged.{IsMerged, Journal, Named, PlacesRise, places_added, times_added}
 use Rattle.inode_events.specs.meta.declared.measurement.Template.TheVariants.{ImaNg, ImaSig}
 use Rattle.inode_events.specs.templates.Same.{place_of_same, same}
 use Rattle.inode_events.specs.templates.declared.entry.Entry.{Entry}
 use Rattle.worked_examples.proofs.Entries.{boot_apart, boot_violation, entry_same, entry_violation}
-use Rattle.worked_examples.proofs.Merging.{merged_from, rising}
+use Rattle.worked_examples.proofs.Merging.{merged_from}
 use Rattle.worked_examples.specs.Merged.{MergedExamples, beside_with, crossed_journals, crossed_list, doubled_journals, doubled_list, fallen_journals, fallen_list, merged_journals, merged_list, other_boot, overtaken_with, reader_with, twin, twin_with}
 use Rattle.worked_examples.specs.Shared.{boot, entry, file_a, who}
 

@@ -1,38 +1,12 @@
 -- A list is merged from the journals of several inodes, by equations that hold by computation.
 use Rattle.std.proofs.Common.{◌≡◌, ℕ, ◌<◌, Bool, true, List, [], ◌∷◌, length, Some, subst, inl, inr}
-use Rattle.std.specs.Prelude.{◌&&◌, ◌⊎◌, ◌==◌, nat_lt, if◌then◌else◌, All, Contains, slice_get, sum_by}
-use Rattle.std.proofs.lemmas.Bool.{and_parts, ltb-true}
-use Rattle.std.proofs.lemmas.List.Elements.{All-cons, All-nil, Contains-append_cases}
-use Rattle.inode_events.proofs.Deciding.{AreApart, above_each, added_above, all_rise, distinct_by, has_none, mentions_rise, one_has, rise_by}
-use Rattle.inode_events.specs.Listing.{IsListed, Mention}
-use Rattle.inode_events.specs.Merged.{IsMerged, Journal, MentionsRise, Named, PlacesRise, all_named, is_earlier, named, places_added, places_named, times_added}
+use Rattle.std.specs.Prelude.{◌&&◌, ◌⊎◌, ◌==◌, if◌then◌else◌, All, Contains, slice_get, sum_by}
+use Rattle.std.proofs.lemmas.Bool.{and_parts}
+use Rattle.std.proofs.lemmas.List.Elements.{Contains-append_cases}
+use Rattle.inode_events.proofs.Deciding.{AreApart, all_rise, distinct_by, has_none, one_has, rise_by}
+use Rattle.inode_events.specs.Listing.{IsListed}
+use Rattle.inode_events.specs.Merged.{IsMerged, Journal, Named, PlacesRise, is_earlier, places_added, places_named, times_added}
 use Rattle.inode_events.specs.templates.declared.entry.Entry.{Entry}
-
--- ---- along a journal
-
--- if the test passes, all reported indices are below
-above_all : (place : ℕ) (ns : List Named) → above_each place ns ≡ true → All (λ n. n.1 < place) ns
-above_all place [] h = All-nil (λ n. n.1 < place)
-above_all place (n ∷ rest) h =
-    let parts = and_parts (nat_lt n.1 place) (above_each place rest) h in
-    All-cons (λ n. n.1 < place) n rest (ltb-true n.1 place parts.0) (above_all place rest parts.1)
-
--- if the test passes, all reported indices are below each added one
-added_all : (added ns : List Named) → added_above added ns ≡ true
-    → All (λ a. All (λ n. n.1 < a.1) ns) added
-added_all [] ns h = All-nil (λ a. All (λ n. n.1 < a.1) ns)
-added_all (a ∷ rest) ns h =
-    let parts = and_parts (above_each a.1 ns) (added_above rest ns) h in
-    All-cons (λ a. All (λ n. n.1 < a.1) ns) a rest (above_all a.1 ns parts.0)
-    (added_all rest ns parts.1)
-
--- if the test passes, the indices of added entries increase along the mentions
-pub rising : (ms : List Mention) → mentions_rise ms ≡ true → MentionsRise ms
-rising [] h = tt
-rising (m ∷ earlier) h =
-    let parts = and_parts (added_above (named m.who m.added) (all_named earlier))
-    (mentions_rise earlier) h in
-    (added_all (named m.who m.added) (all_named earlier) parts.0, rising earlier parts.1)
 
 -- ---- along the steps of tasks
 
