@@ -1,3 +1,4 @@
 pub mod Appending
 pub mod Containing
 pub mod Properties
+pub mod Remaining

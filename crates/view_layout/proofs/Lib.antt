@@ -2,4 +2,3 @@ pub mod FlagsLemmas
 pub mod InLanes
 pub mod LanesLemmas
 pub mod NoItems
-pub mod Rests

@@ -1,7 +1,7 @@
 use Rattle.std.proofs.Common.{ℕ, [], ◌∷◌, ◌+◌, append-nil, drop, get_or, refl, sym, ◌∙◌, arith}
 use Rattle.std.proofs.lemmas.List.{at_drop_all, at_drop_more}
 use Rattle.view_layout.specs.Lanes.{bottom_from, lane_at, lane_height, lane_seats, lanes_from, seats_from}
-use Rattle.view_layout.proofs.Rests.{none_left, one_less}
+use Rattle.list_lemmas.proofs.Remaining.{none_left, one_less}
 use Rattle.view_layout.proofs.lanes.push_lanes.Goals as goal
 
 pub loop-task-preserved : goal.loop-task-preserved
