@@ -244,29 +244,21 @@ IsBytes-take n bytes small =
     IsBytes-front (take n bytes) (drop n bytes)
     (IsBytes-same bytes (take n bytes ++ drop n bytes) (sym (take-append-drop n bytes)) small)
 
--- bytes that begin with a number in four bytes
-four_then : (bytes : List ℕ) → 4 ≤ length bytes → IsBytes bytes
-    → bytes ≡ little_bytes 4 (little_number 4 bytes) ++ drop 4 bytes
-four_then bytes long small =
-    let parts : take 4 bytes ++ drop 4 bytes ≡ bytes = take-append-drop 4 bytes in
-    let number : little_bytes 4 (little_number 4 (take 4 bytes ++ drop 4 bytes)) ≡ take 4 bytes =
-    little_bytes-front_4 (take 4 bytes) (drop 4 bytes) (length-take-le 4 bytes long)
-    (IsBytes-take 4 bytes small) in
+-- bytes that begin with a number in this many bytes, if it is the one that these are
+number_then : (size : ℕ)
+    → ((front rest : List ℕ) → length front ≡ size → IsBytes front
+    → little_bytes size (little_number size (front ++ rest)) ≡ front)
+    → (bytes : List ℕ) → size ≤ length bytes → IsBytes bytes
+    → bytes ≡ little_bytes size (little_number size bytes) ++ drop size bytes
+number_then size reads bytes long small =
+    let parts : take size bytes ++ drop size bytes ≡ bytes = take-append-drop size bytes in
+    let number : little_bytes size (little_number size (take size bytes ++ drop size bytes))
+    ≡ take size bytes =
+    reads (take size bytes) (drop size bytes) (length-take-le size bytes long)
+    (IsBytes-take size bytes small) in
     sym parts
-    ∙ (λ i. (sym number ∙ ap (λ (l : List ℕ). little_bytes 4 (little_number 4 l)) parts) i
-    ++ drop 4 bytes)
-
--- bytes that begin with a number in eight bytes
-eight_then : (bytes : List ℕ) → 8 ≤ length bytes → IsBytes bytes
-    → bytes ≡ little_bytes 8 (little_number 8 bytes) ++ drop 8 bytes
-eight_then bytes long small =
-    let parts : take 8 bytes ++ drop 8 bytes ≡ bytes = take-append-drop 8 bytes in
-    let number : little_bytes 8 (little_number 8 (take 8 bytes ++ drop 8 bytes)) ≡ take 8 bytes =
-    little_bytes-front_8 (take 8 bytes) (drop 8 bytes) (length-take-le 8 bytes long)
-    (IsBytes-take 8 bytes small) in
-    sym parts
-    ∙ (λ i. (sym number ∙ ap (λ (l : List ℕ). little_bytes 8 (little_number 8 l)) parts) i
-    ++ drop 8 bytes)
+    ∙ (λ i. (sym number ∙ ap (λ (l : List ℕ). little_bytes size (little_number size l)) parts) i
+    ++ drop size bytes)
 
 -- a number that isn't zero is at least one
 one_at_least : (n : ℕ) → (n == 0) ≡ false → 1 ≤ n
@@ -359,15 +351,15 @@ header-then : (bytes : List ℕ) → IsBytes bytes → HasParts bytes
 unfolding header
 header-then bytes small parts =
     let version : drop 4 bytes ≡ little_bytes 4 1 ++ drop 8 bytes =
-    four_then (drop 4 bytes) (omega (arith, parts.long, length-drop 4 bytes))
+    number_then 4 little_bytes-front_4 (drop 4 bytes) (omega (arith, parts.long, length-drop 4 bytes))
     (IsBytes-drop 4 bytes small)
     ∙ (λ i. little_bytes 4 (parts.version i) ++ drop-drop 4 4 bytes i) in
     let count : drop 8 bytes ≡ little_bytes 8 (stated_count bytes) ++ drop 16 bytes =
-    eight_then (drop 8 bytes) (omega (arith, parts.long, length-drop 8 bytes))
+    number_then 8 little_bytes-front_8 (drop 8 bytes) (omega (arith, parts.long, length-drop 8 bytes))
     (IsBytes-drop 8 bytes small)
     ∙ (λ i. little_bytes 8 (stated_count bytes) ++ drop-drop 8 8 bytes i) in
     let whole : drop 16 bytes ≡ little_bytes 8 (stated_length bytes) ++ drop 24 bytes =
-    eight_then (drop 16 bytes) (omega (arith, parts.long, length-drop 16 bytes))
+    number_then 8 little_bytes-front_8 (drop 16 bytes) (omega (arith, parts.long, length-drop 16 bytes))
     (IsBytes-drop 16 bytes small)
     ∙ (λ i. little_bytes 8 (stated_length bytes) ++ drop-drop 8 16 bytes i) in
     sym (take-append-drop 4 bytes)
