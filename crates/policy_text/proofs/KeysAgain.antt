@@ -3,7 +3,7 @@
 use Rattle.std.proofs.Common.{◌≡◌, ℕ, ◌^◌, Bool, true, false, not, ◌||◌, ◌&&◌, List, [], ◌∷◌, ◌++◌, codes, Option, Some, None, is_none, is_some, Ok, nat_le, nat_lt, refl, sym, ap, ◌∙◌, inl, inr, arith}
 use Rattle.std.specs.Fmt.{decimal}
 use Rattle.std.specs.List.{list_all}
-use Rattle.std.proofs.lemmas.Bool.{cases_Bool, leb-true, ltb-true, false≢true}
+use Rattle.std.proofs.lemmas.Bool.{and_parts, cases_Bool, leb-true, ltb-true, false≢true}
 use Rattle.hash_algos.specs.declared.algo_set.AlgoSet.{AlgoSet}
 use Rattle.inode_meta.specs.Words.{template_word}
 use Rattle.inode_meta.specs.declared.appraisal.Need.{Need}
@@ -24,7 +24,6 @@ use Rattle.policy_rules.specs.RuleValue.{RuleValue, IsRule, if_there, is_mask_bi
 use Rattle.policy_text.specs.Spelling.{is_visible_word, key_word, key_words}
 use Rattle.policy_rules.specs.ValueTexts.{algos_text, func_word, id_text, mask_text}
 use Rattle.policy_text.proofs.AlgosAgain.{algos_again}
-use Rattle.policy_text.proofs.Joined.{left, right}
 use Rattle.policy_text.proofs.ValuesAgain.{func_again, id_again, mask_again, number_again, sign_again}
 
 -- the rule s, with the key's part of the rule r
@@ -95,7 +94,7 @@ module _ (s : RuleValue) where
       → if_there (is_word 255) o ≡ true
       → Reads (codes "fsname=" ++ told (λ n. n) o) s (record s { fsname = o })
   name_read None e h k = absurd (false≢true h)
-  name_read (Some x) e h k = (right _ _ k, rw (e, k) refl)
+  name_read (Some x) e h k = ((and_parts _ _ k).1, rw (e, k) refl)
 
   uid_read : (o : Option IdTest) → is_some s.uid ≡ false → is_some o ≡ true → if_there is_id o
       ≡ true → Reads (codes "uid" ++ told id_text o) s (record s { uid = o })
@@ -284,8 +283,8 @@ keys_read : (ks : List Key) (r s : RuleValue) → IsRule r → s.act ≡ r.act �
     → Again ks r s
 keys_read [] r s ok act fresh = (refl, refl)
 keys_read (k ∷ ks) r s ok act fresh =
-    let missing = not_true ((row k).is_in s) (left _ _ fresh) in
-    let others = keys_read ks r (put k r s) ok (put_act k r s ∙ act) (right _ _ fresh) in
+    let missing = not_true ((row k).is_in s) (and_parts _ _ fresh).0 in
+    let others = keys_read ks r (put k r s) ok (put_act k r s ∙ act) (and_parts _ _ fresh).1 in
     elim (cases_Bool ((row k).is_in r)) [
       | inl has ↦ let read = word_read k r s ok act missing has
           in rw has (rw read.0 others.0, rw read.1 others.1)

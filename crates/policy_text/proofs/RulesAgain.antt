@@ -1,7 +1,7 @@
 -- The printed text of a rule consists of words, and is read back as that rule.
 use Rattle.std.proofs.Common.{◌≡◌, ℕ, true, false, not, ◌==◌, List, [], ◌∷◌, ◌++◌, flat_map, filter, Ok, refl, sym, ap, ◌∙◌, append_assoc, inl, inr, arith}
 use Rattle.std.specs.List.{list_all, join_with_byte}
-use Rattle.std.proofs.lemmas.Bool.{cases_Bool}
+use Rattle.std.proofs.lemmas.Bool.{and_parts, cases_Bool}
 use Rattle.std.proofs.lemmas.Bool.Decides.{nat_tests}
 use Rattle.std.proofs.lemmas.List.{append-nil}
 use Rattle.text_forms.specs.Lines.{is_one_line}
@@ -16,7 +16,7 @@ use Rattle.policy_rules.specs.Key.{keys, row}
 use Rattle.policy_rules.specs.RuleValue.{RuleValue, IsRule}
 use Rattle.policy_rules.specs.ValueTexts.{act_word}
 use Rattle.policy_text.specs.Spelling.{is_visible_word, key_text, key_word, key_words, rule_text, rule_words}
-use Rattle.policy_text.proofs.Joined.{all_joined, filled_kept, left, parts_joined, right}
+use Rattle.policy_text.proofs.Joined.{all_joined, filled_kept, parts_joined}
 use Rattle.policy_text.proofs.KeysAgain.{keys_again}
 use Rattle.policy_text.proofs.ValuesAgain.{act_again}
 
@@ -58,10 +58,10 @@ act_skips act.Hash ts = refl
 act_skips act.DontHash ts = refl
 
 visible_filled : (w : List ℕ) → is_visible_word w ≡ true → is_filled w ≡ true
-visible_filled w h = left _ _ h
+visible_filled w h = (and_parts _ _ h).0
 
 visible_inked : (w : List ℕ) → is_visible_word w ≡ true → list_all is_inked w ≡ true
-visible_inked w h = inked_from_visible w (right _ _ h)
+visible_inked w h = inked_from_visible w (and_parts _ _ h).1
 
 spaceless : (b : ℕ) → is_inked b ≡ true → not (b == 32) ≡ true
 spaceless b h = grind (arith, nat_tests)
@@ -70,7 +70,7 @@ visible_spaceless : (w : List ℕ) → is_visible_word w ≡ true → list_all (
 visible_spaceless w h = all_weaker is_inked (λ b. not (b == 32)) spaceless w (visible_inked w h)
 
 visible_flat : (w : List ℕ) → is_visible_word w ≡ true → list_all (λ b. not (b == 10)) w ≡ true
-visible_flat w h = flat_from_visible w (right _ _ h)
+visible_flat w h = flat_from_visible w (and_parts _ _ h).1
 
 module _ (r : RuleValue) (ok : IsRule r) where
   -- each word of a rule is at least one visible byte

@@ -2,7 +2,7 @@
 use Rattle.std.proofs.Common.{◌≡◌, ℕ, ◌+◌, ◌-◌, ◌<◌, ◌≤◌, ◌==◌, Bool, true, false, ◌&&◌, nat_le, List, [], ◌∷◌, ◌++◌, length, map, take, drop, Some, refl, sym, ap, ◌∙◌, subst, append_assoc, inl, inr, arith, length-append, length-drop}
 use Rattle.std.specs.Prelude.{slice_get}
 use Rattle.std.specs.List.{list_all}
-use Rattle.std.proofs.lemmas.Bool.{cases_Bool, false≢true, leb-true}
+use Rattle.std.proofs.lemmas.Bool.{and_parts, cases_Bool, false≢true, leb-true}
 use Rattle.std.proofs.lemmas.Bool.Decides.{nat_tests}
 use Rattle.std.proofs.lemmas.List.{append-nil, take-append-drop}
 use Rattle.std.proofs.lemmas.List.Folds.{list_all-append}
@@ -17,12 +17,7 @@ use Rattle.run_model.specs.Scene.{Program, Scene, mode_of}
 use Rattle.report_text.specs.Printed.{printed, printed_by}
 use Rattle.run_model.specs.EndedValue.{grows}
 use Rattle.report_laws.proofs.CallStates.{call_state_after, next_call_state, place_in, step_plain, who_plain}
-use Rattle.report_laws.proofs.Own.{Alike, Meet, al, empty, event_length, is_no_birth, left, length_alike, length_map, map_append, middle, no_birth, own_after, pr, rules_least, step_alike, suited_after}
-
--- the second of two tests that both hold
-right : (a b : Bool) → (a && b) ≡ true → b ≡ true
-right true b h = h
-right false b h = absurd (false≢true h)
+use Rattle.report_laws.proofs.Own.{Alike, Meet, al, empty, event_length, is_no_birth, length_alike, length_map, map_append, middle, no_birth, own_after, pr, rules_least, step_alike, suited_after}
 
 -- a test that a whole list passes, each part of the list passes
 all_middle : {X : Type 0} (q : X → Bool) (u v w : List X) → list_all q ((u ++ v) ++ w) ≡ true
@@ -30,9 +25,9 @@ all_middle : {X : Type 0} (q : X → Bool) (u v w : List X) → list_all q ((u +
 all_middle q u v w h =
     let one : (list_all q (u ++ v) && list_all q w) ≡ true = rw (list_all-append q (u ++ v) w) at h
     in
-    let two : list_all q (u ++ v) ≡ true = left _ _ one in
+    let two : list_all q (u ++ v) ≡ true = (and_parts _ _ one).0 in
     let three : (list_all q u && list_all q v) ≡ true = rw (list_all-append q u v) at two in
-    right _ _ three
+    (and_parts _ _ three).1
 
 module _ (scene : Scene) (a b : Run) (n : ℕ) (p : Program) (meet : Meet scene a b)
     (ha hb : List Answer)

@@ -2,7 +2,7 @@
 use Rattle.std.proofs.Common.{◌≡◌, ℕ, zero, suc, ◌<◌, ◌≤◌, ◌==◌, Bool, true, false, ◌&&◌, List, [], ◌∷◌, ◌++◌, length, map, take, Option, Some, None, if◌then◌else◌, refl, sym, ap, ◌∙◌, append_assoc, inl, inr, arith}
 use Rattle.std.specs.Prelude.{slice_get}
 use Rattle.std.specs.List.{list_all}
-use Rattle.std.proofs.lemmas.Bool.{cases_Bool, false≢true}
+use Rattle.std.proofs.lemmas.Bool.{and_parts, cases_Bool, false≢true}
 use Rattle.std.proofs.lemmas.Bool.Decides.{nat_tests}
 use Rattle.std.proofs.lemmas.List.{append-nil}
 use Rattle.inode_meta.specs.declared.step.Who.{Who}
@@ -70,11 +70,6 @@ is_there (Some x) = true
 -- equal options have equal contents
 pub some_same : {X : Type 0} (x y : X) → Some x ≡ Some y → x ≡ y
 some_same x y e = cc
-
--- the first of two tests that both hold
-pub left : (a b : Bool) → (a && b) ≡ true → a ≡ true
-left true b h = refl
-left false b h = absurd (false≢true h)
 
 -- a place that has an element is below the length
 pub get_below : {X : Type 0} (xs : List X) (i : ℕ) (x : X) → slice_get xs i ≡ Some x → i < length xs
@@ -239,7 +234,7 @@ step_alike scene a b p meet ka kb who (Some (Does inode d)) x y hx hy la lb same
     let e : map (pr scene) ((x.place, event who d x.told) ∷ [])
     ≡ map (pr scene) ((y.place, event who d y.told) ∷ []) = rw yes at (same inode hx.0) in
     let birth : (is_no_birth d && true) ≡ true = rw yes at (nb inode hx.0) in
-    let nobirth : is_no_birth d ≡ true = left (is_no_birth d) true birth in
+    let nobirth : is_no_birth d ≡ true = (and_parts (is_no_birth d) true birth).0 in
     let place : x.place ≡ y.place = ap head_place e in
     let tolds : printed_told x.told ≡ printed_told y.told =
     sym (told_of scene who d x.told nobirth) ∙ ap (λ l. (head_event l).told) e

@@ -1,8 +1,8 @@
 -- The lines of the list and of the registers are accepted.
-use Rattle.std.proofs.Common.{◌≡◌, ◌≢◌, ℕ, zero, suc, ◌+◌, ◌*◌, ◌/◌, ◌%◌, ◌<◌, ◌≤◌, ◌==◌, Bool, true, false, ◌&&◌, nat_lt, List, [], ◌∷◌, ◌++◌, codes, length, length-append, take, Some, if◌then◌else◌, refl, sym, ap, ◌∙◌, subst, inl, inr, arith}
+use Rattle.std.proofs.Common.{◌≡◌, ◌≢◌, ℕ, zero, suc, ◌+◌, ◌*◌, ◌/◌, ◌%◌, ◌<◌, ◌≤◌, ◌==◌, Bool, true, ◌&&◌, nat_lt, List, [], ◌∷◌, ◌++◌, codes, length, length-append, take, Some, if◌then◌else◌, refl, sym, ap, ◌∙◌, subst, inl, inr, arith}
 use Rattle.std.specs.Prelude.{slice_index}
 use Rattle.std.specs.List.{list_all}
-use Rattle.std.proofs.lemmas.Bool.{cases_Bool, eq-eqb, eqb-false, eqb-true, false≢true}
+use Rattle.std.proofs.lemmas.Bool.{and_parts, cases_Bool, eq-eqb, eqb-false, eqb-true}
 use Rattle.std.proofs.lemmas.List.{take_all}
 use Rattle.hex.specs.Hex.{IsBytes, encode_lower, encode_with, lower_digits}
 use Rattle.hex.proofs.HexLemmas as hexes
@@ -26,14 +26,6 @@ use Rattle.report_read.specs.ReadBack.{IsShownEntry}
 
 -- ---- hexadecimal
 
-left : (a b : Bool) → (a && b) ≡ true → a ≡ true
-left true b h = refl
-left false b h = absurd (false≢true h)
-
-right : (a b : Bool) → (a && b) ≡ true → b ≡ true
-right true b h = h
-right false b h = absurd (false≢true h)
-
 abbrev all_below : (ℕ → Bool) → ℕ → Bool
 all_below p zero = true
 all_below p (suc k) = p k && all_below p k
@@ -41,9 +33,9 @@ all_below p (suc k) = p k && all_below p k
 picked_in : (p : ℕ → Bool) (xs : List ℕ) (i : ℕ) → i < length xs → list_all p xs ≡ true
     → p (slice_index xs i) ≡ true
 picked_in p [] i h k = absurd (omega (arith, h))
-picked_in p (x ∷ xs) zero h k = left (p x) (list_all p xs) k
+picked_in p (x ∷ xs) zero h k = (and_parts (p x) (list_all p xs) k).0
 picked_in p (x ∷ xs) (suc i) h k =
-    picked_in p xs i (omega (arith, h)) (right (p x) (list_all p xs) k)
+    picked_in p xs i (omega (arith, h)) (and_parts (p x) (list_all p xs) k).1
 
 digits_low : (bs : List ℕ) → IsBytes bs → list_all is_low_hex (encode_lower bs) ≡ true
 unfolding encode_with
@@ -95,10 +87,10 @@ below p zero n h all = absurd (omega (arith, h))
 below p (suc k) n h all = elim (cases_Bool (n == k)) [
   | inl e ↦
       let same : k ≡ n = sym (eqb-true n k e) in
-      subst (λ (x : ℕ). p x ≡ true) same (left (p k) (all_below p k) all)
+      subst (λ (x : ℕ). p x ≡ true) same (and_parts (p k) (all_below p k) all).0
   | inr e ↦
       let other : n ≢ k = eqb-false n k e in
-      below p k n (omega (arith, h, other)) (right (p k) (all_below p k) all)
+      below p k n (omega (arith, h, other)) (and_parts (p k) (all_below p k) all).1
 ]
 
 abbrev is_padded : ℕ → Bool

@@ -1,6 +1,6 @@
 -- The line of an event that a legal journal has is read as that event.
-use Rattle.std.proofs.Common.{◌≡◌, ℕ, ◌<◌, ◌≤◌, ◌^◌, ◌==◌, Bool, true, false, ◌&&◌, List, [], ◌∷◌, ◌++◌, codes, length, take, Option, Some, None, unwrap_or, refl, sym, ap, ◌∙◌, subst, arith, length-append}
-use Rattle.std.proofs.lemmas.Bool.{eq-eqb, false≢true, ne_eqb}
+use Rattle.std.proofs.Common.{◌≡◌, ℕ, ◌<◌, ◌≤◌, ◌^◌, ◌==◌, Bool, true, false, List, [], ◌∷◌, ◌++◌, codes, length, take, Option, Some, None, unwrap_or, refl, sym, ap, ◌∙◌, subst, arith, length-append}
+use Rattle.std.proofs.lemmas.Bool.{and_parts, eq-eqb, ne_eqb}
 use Rattle.std.proofs.lemmas.List.{take_all}
 use Rattle.report_text.specs.Numerals.{numeral}
 use Rattle.report_text.specs.Words.{Line, acts_words, admitted_words, appraise_words, deed_words, event_words, flag_words, grant_words, measure_words, or_dash, placed_words, rules_words, step_words, told_words, verdict_words, who_word}
@@ -262,15 +262,11 @@ event_back t g line inode before who (deed.Wait n) o small f s = absurd f.1
 
 -- ---- its text
 
-left : (a b : Bool) → (a && b) ≡ true → a ≡ true
-left true b h = refl
-left false b h = absurd (false≢true h)
-
 pub event_lines_are_read : EventLinesAreRead
 event_lines_are_read default grows inode before e line small follows clean s =
     let place : ℕ = length before in
     let kept : is_line (event_words default grows place e) ≡ true =
-    left _ _ (events_kept default grows place (e ∷ []) (clean, tt)) in
+    (and_parts _ _ (events_kept default grows place (e ∷ []) (clean, tt))).0 in
     ap (λ (ws : Line). event_of place line (take 24 ws))
     (words_back (numeral place) (step_words default grows e.who e.deed e.told) kept)
     ∙ event_back default grows line inode before e.who e.deed e.told small follows

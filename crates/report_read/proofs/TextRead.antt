@@ -1,42 +1,17 @@
 -- A text of lines is read as the fold of its lines.
-use Rattle.std.proofs.Common.{◌≡◌, ℕ, ◌+◌, ◌==◌, Bool, true, false, not, ◌&&◌, List, [], ◌∷◌, take, Option, Some, None, Result, Ok, refl, sym, ap, ◌∙◌, subst}
+use Rattle.std.proofs.Common.{◌≡◌, ℕ, ◌+◌, true, false, List, [], ◌∷◌, take, Option, Some, None, Result, Ok, refl, sym, ap, ◌∙◌, subst}
 use Rattle.std.specs.Prelude.{ok_or}
 use Rattle.std.specs.List.{join_with_byte, list_all}
-use Rattle.std.proofs.lemmas.Bool.{false≢true}
-use Rattle.std.proofs.lemmas.List.Folds.{list_all-append}
+use Rattle.std.proofs.lemmas.Bool.{and_parts, false≢true}
 use Rattle.report_text.specs.Words.{Line}
 use Rattle.report_text.specs.model.events.forms.Lines.{◌>>=◌, lines}
-use Rattle.report_text.specs.model.events.forms.Words.{is_clean, is_clean_byte, is_line, text_of}
-use Rattle.report_text.proofs.about_forms.Tells.{line_split, words_back}
-use Rattle.report_text.proofs.about_forms.Visible.{all_weaker}
+use Rattle.report_text.specs.model.events.forms.Words.{is_line, text_of}
+use Rattle.report_text.proofs.about_forms.Tells.{flat_words, line_split, words_back}
 use Rattle.report_words.proofs.about_lines.Reading.{some_line}
 use Rattle.report_read.specs.Draft.{Draft, is_over, with_words}
 use Rattle.report_read.specs.Read.{read_from, with_line}
 use Rattle.report_read.proofs.Fold.{fold, fold_from, line_span, next}
 use Rattle.report_read.proofs.Reading.{one_more}
-
-left : (a b : Bool) → (a && b) ≡ true → a ≡ true
-left true b h = refl
-left false b h = absurd (false≢true h)
-
-right : (a b : Bool) → (a && b) ≡ true → b ≡ true
-right true b h = h
-right false b h = absurd (false≢true h)
-
-no_newline : (b : ℕ) → is_clean_byte b ≡ true → not (b == 10) ≡ true
-no_newline b h = left _ _ h
-
--- a line has no newline
-flat_words : (ws : Line) → list_all is_clean ws ≡ true
-    → list_all (λ b. not (b == 10)) (join_with_byte 32 ws) ≡ true
-flat_words [] h = refl
-flat_words (w ∷ []) h = all_weaker is_clean_byte (λ b. not (b == 10)) no_newline w (left _ _ h)
-flat_words (w ∷ v ∷ ws) h =
-    rw (
-      list_all-append (λ b. not (b == 10)) w (32 ∷ join_with_byte 32 (v ∷ ws)),
-      all_weaker is_clean_byte (λ b. not (b == 10)) no_newline w (left _ _ h),
-    )
-    (flat_words (v ∷ ws) (right _ _ h))
 
 bind_read : (o : Option Draft) (n begin : ℕ) (ls : List Line) (g : Draft → Result Draft ℕ)
     (e : Draft) → ((u : Draft) → fold begin u ls ≡ Some e → g u ≡ Ok e)
@@ -53,14 +28,14 @@ text_read [] begin n d e h f o =
     subst (λ (x : Draft). read_from begin n x (lines []) ≡ Ok e) (sym same) (rw o refl)
 text_read ([] ∷ ls) begin n d e h f o = absurd (false≢true h)
 text_read ((w ∷ ws) ∷ ls) begin n d e h f o =
-    let flat = flat_words (w ∷ ws) (left _ _ h) in
-    let back = words_back w ws (left _ _ h) in
+    let flat = flat_words (w ∷ ws) (and_parts _ _ h).0 in
+    let back = words_back w ws (and_parts _ _ h).0 in
     ap (read_from begin n d) (line_split (join_with_byte 32 (w ∷ ws)) (text_of ls) flat)
     ∙ (one_more begin n d (join_with_byte 32 (w ∷ ws)) (lines (text_of ls))
     (some_line (text_of ls))
     ∙ bind_read (with_line begin d (join_with_byte 32 (w ∷ ws))) n (next begin (w ∷ ws)) ls
     (λ u. read_from (next begin (w ∷ ws)) (n + 1) u (lines (text_of ls))) e
-    (λ u k. text_read ls (next begin (w ∷ ws)) (n + 1) u e (right _ _ h) k o)
+    (λ u k. text_read ls (next begin (w ∷ ws)) (n + 1) u e (and_parts _ _ h).1 k o)
     (subst
     (λ (x : Line). fold_from (with_words d.stage (line_span begin (w ∷ ws)) (take 24 x) d)
     (next begin (w ∷ ws)) ls ≡ Some e) (sym back) f))

@@ -1,10 +1,10 @@
 -- No word of a report has a space or a newline in it.
-use Rattle.std.proofs.Common.{◌≡◌, ℕ, ◌<◌, ◌^◌, ◌+◌, ◌/◌, ◌%◌, zero, suc, Bool, true, false, ◌&&◌, List, [], ◌∷◌, ◌++◌, length, codes, Option, Some, None, unwrap_or, refl, arith}
+use Rattle.std.proofs.Common.{◌≡◌, ℕ, ◌<◌, ◌^◌, ◌+◌, ◌/◌, ◌%◌, zero, suc, Bool, true, false, List, [], ◌∷◌, ◌++◌, length, codes, Option, Some, None, unwrap_or, refl, arith}
 use Rattle.std.specs.Prelude.{slice_index}
 use Rattle.report_text.specs.Numerals.{numeral}
 use Rattle.std.specs.Fmt.{digits}
 use Rattle.std.specs.List.{AllByRecursion, list_all}
-use Rattle.std.proofs.lemmas.Bool.{false≢true}
+use Rattle.std.proofs.lemmas.Bool.{and_parts}
 use Rattle.std.proofs.lemmas.Bool.Decides.{nat_tests}
 use Rattle.std.proofs.lemmas.List.Folds.{list_all-append}
 use Rattle.hex.specs.Hex.{encode_lower, encode_with, lower_digits}
@@ -43,14 +43,6 @@ use Rattle.report_text.specs.Words.{Line, who_word, how_words, measure_words, ap
 use Rattle.report_text.specs.Ranges.{IsChange, IsDeed}
 use Rattle.report_text.proofs.Numerals.{numeral_clean}
 
-left : (a b : Bool) → (a && b) ≡ true → a ≡ true
-left true b h = refl
-left false b h = absurd (false≢true h)
-
-right : (a b : Bool) → (a && b) ≡ true → b ≡ true
-right true b h = h
-right false b h = absurd (false≢true h)
-
 -- ---- small words
 
 visible_kept : (b : ℕ) → is_visible b ≡ true → is_clean_byte b ≡ true
@@ -69,8 +61,8 @@ octal_kept n h =
 pub picked : (p : ℕ → Bool) (xs : List ℕ) (i : ℕ) → list_all p xs ≡ true → p 0 ≡ true
     → p (slice_index xs i) ≡ true
 picked p [] i h z = z
-picked p (x ∷ xs) zero h z = left _ _ h
-picked p (x ∷ xs) (suc i) h z = picked p xs i (right _ _ h) z
+picked p (x ∷ xs) zero h z = (and_parts _ _ h).0
+picked p (x ∷ xs) (suc i) h z = picked p xs i (and_parts _ _ h).1 z
 
 -- hexadecimal digits are clean, for any list: a number that isn't a byte has zeros as its digits
 pub hex_kept : (bs : List ℕ) → is_clean (encode_lower bs) ≡ true
