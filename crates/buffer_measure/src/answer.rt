@@ -1,6 +1,6 @@
 /// The answer to a buffer that a caller hands in to be measured, with an index in the list, counted
 /// from 0.
-#[derive(Clone, Copy, Debug, PartialEq, Eq)]
+#[derive(Clone, Copy)]
 pub enum Answer {
     /// No rule wants it measured.
     Skipped,

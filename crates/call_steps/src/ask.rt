@@ -3,7 +3,7 @@ use policy_rules::Func;
 
 /// The next step of a call: the event to make, or none. The event's other fields come from the
 /// call, from the file that it uses, from the task's credentials and from the rules.
-#[derive(Clone, Copy, Debug, PartialEq, Eq)]
+#[derive(Clone, Copy, PartialEq, Eq)]
 pub enum Ask {
     /// Count a file, for an open or an execution.
     Count,

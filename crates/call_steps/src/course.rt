@@ -7,7 +7,7 @@ use inode_events::How;
 use policy_rules::Purpose;
 
 /// The course of a call's steps. A call that makes a check goes on by the check's answer.
-#[derive(Clone, Copy, Debug, PartialEq, Eq)]
+#[derive(Clone, Copy)]
 pub enum Course {
     /// Open a file, and truncate it if `trunc` is set.
     Open { how: How, trunc: bool },

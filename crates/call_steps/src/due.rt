@@ -2,7 +2,7 @@ use crate::ask::Ask;
 use crate::reply::Reply;
 
 /// A call between two steps.
-#[derive(Clone, Copy, Debug, PartialEq, Eq)]
+#[derive(Clone, Copy)]
 pub struct Due {
     /// The step that the call makes next.
     pub ask: Ask,
@@ -11,7 +11,7 @@ pub struct Due {
 }
 
 /// The effect of a step on its call.
-#[derive(Clone, Copy, Debug, PartialEq, Eq)]
+#[derive(Clone, Copy)]
 pub enum Next {
     /// The call makes another step.
     On(Due),

@@ -3,7 +3,6 @@ ghost use Rattle.std.specs.Prelude.{◌≡◌, ℕ, List};
 use std::marker::Model;
 
 /// The numbers of the tasks that get one turn each, in order. Contracts see the list of numbers.
-#[derive(Debug)]
 pub struct Turns {
     tasks: Vec<u32>,
 }
@@ -38,7 +37,7 @@ impl Turns {
 }
 
 /// How the tasks of a script run, and when they stop.
-#[derive(Debug, Drop)]
+#[derive(Drop)]
 pub enum Ending {
     /// One turn of each task that the schedule names, in order. The run may stop anywhere.
     Schedule(Turns),

@@ -15,7 +15,7 @@ use inode_meta::Mode;
 use policy_rules::Action;
 
 /// A call in progress. It is of no further use once the call is answered.
-#[derive(Clone, Copy, Debug, PartialEq, Eq)]
+#[derive(Clone, Copy)]
 pub struct Plan {
     /// The course of the call's steps.
     pub course: Course,

@@ -7,7 +7,7 @@ use inode_events::labels::Cause;
 use inode_meta::EvmStatus;
 
 /// The reply to a call.
-#[derive(Clone, Copy, Debug, PartialEq, Eq)]
+#[derive(Clone, Copy, PartialEq, Eq)]
 pub enum Reply {
     /// The call was done.
     Done,

@@ -5,7 +5,7 @@ ghost use Rattle.command_line.specs.Words.{command_by, command_named, command_nu
 use text_forms::short_number_of;
 
 /// A command of the program.
-#[derive(Clone, Copy, Debug, PartialEq, Eq)]
+#[derive(Clone, Copy)]
 pub enum Command {
     /// Prints the measurement list of the files of a list text.
     List,

@@ -16,7 +16,6 @@ use xattr_store::{After, Attrs, Bytes, EVM_NAME, NewValue};
 const FIVE: usize = 5;
 
 /// EVM under a script's settings. Contracts see its key, the added names and the format.
-#[derive(Debug)]
 pub struct Evm {
     key: Option<Bytes>,
     // The five fixed names, followed by the added ones.

@@ -4,7 +4,7 @@ ghost use Rattle.std.specs.Prelude.{◌≡◌};
 ghost use Rattle.hash_algos.specs.Algo.{algo_by_id, algo_by_name, algo_id, algo_name, algo_size};
 
 /// A hash algorithm. The order is that of the numbers, see [`Algo::id`].
-#[derive(Clone, Copy, PartialEq, Eq, Debug)]
+#[derive(Clone, Copy, PartialEq, Eq)]
 pub enum Algo {
     /// MD5 (RFC 1321).
     Md5,

@@ -7,7 +7,7 @@ use crate::algo::Algo;
 
 /// A set of algorithms, as `appraise_algos=` lists them. Two sets are equal, in a contract and by
 /// `==`, exactly if they hold the same algorithms.
-#[derive(Clone, Copy, PartialEq, Eq, Debug)]
+#[derive(Clone, Copy, PartialEq, Eq)]
 pub struct AlgoSet {
     md5: bool,
     sha1: bool,

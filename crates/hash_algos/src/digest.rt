@@ -10,12 +10,12 @@ use std::marker::Model;
 /// A digest, which contracts see as the record `{ algo; bytes }` of its algorithm and its bytes, in
 /// the order in which the standard writes them. The number of bytes is that of the algorithm, which
 /// [`Digest::as_slice`] states.
-#[derive(Clone, Copy, PartialEq, Eq, Debug)]
+#[derive(Clone, Copy, PartialEq, Eq)]
 pub struct Digest {
     pub(crate) sum: Sum,
 }
 
-#[derive(Clone, Copy, PartialEq, Eq, Debug)]
+#[derive(Clone, Copy, PartialEq, Eq)]
 pub(crate) enum Sum {
     Md5([u8; 16]),
     Sha1([u8; 20]),

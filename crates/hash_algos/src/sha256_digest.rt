@@ -9,7 +9,7 @@ use std::marker::Model;
 
 /// A SHA-256 digest in half the space of a [`Digest`], which has room for any algorithm's.
 /// Contracts see it as that digest.
-#[derive(Clone, Copy, PartialEq, Eq, Debug)]
+#[derive(Clone, Copy, PartialEq, Eq)]
 pub struct Sha256Digest {
     bytes: [u8; 32],
 }

@@ -53,7 +53,7 @@ pub trait Sink {
 
 /// The position of a step in a run: the task, the task's call, and the step of that call, each
 /// counted from 0.
-#[derive(Clone, Copy, Debug, PartialEq, Eq)]
+#[derive(Clone, Copy, PartialEq, Eq)]
 pub struct Who {
     pub task: u32,
     pub call: u32,
@@ -67,7 +67,7 @@ pub trait Gate {
 }
 
 /// The gate that never holds up a task.
-#[derive(Clone, Copy, Debug, PartialEq, Eq)]
+#[derive(Clone, Copy)]
 pub struct FreeGate;
 
 impl Gate for FreeGate {

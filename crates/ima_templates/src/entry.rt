@@ -17,7 +17,7 @@ use xattr_store::Bytes;
 /// `ima-ng`; a violation has register 10, a digest of zeros, no `sig`, and a template other than
 /// `ima-buf`. Contracts see the record of its public fields. The other fields are its template
 /// digests, which are computed once, when the entry is made.
-#[derive(Debug, Drop)]
+#[derive(Drop)]
 pub struct Entry {
     /// The register that the entry extends.
     pub pcr: u8,
@@ -51,7 +51,7 @@ impl Model for Entry {
 }
 
 /// The outcome of adding an entry, with an index in the list, counted from 0.
-#[derive(Clone, Copy, PartialEq, Eq, Debug)]
+#[derive(Clone, Copy)]
 pub enum Placed {
     /// The entry was added at this index, as the last one.
     Added(u64),

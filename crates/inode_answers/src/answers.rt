@@ -5,7 +5,7 @@ use inode_meta::EvmStatus;
 use policy_rules::Action;
 
 /// The result of counting a file.
-#[derive(Clone, Copy, Debug, PartialEq, Eq)]
+#[derive(Clone, Copy)]
 pub enum Counted {
     /// The file is counted, and named by this place of the journal.
     Held(u64),
@@ -16,7 +16,7 @@ pub enum Counted {
 }
 
 /// The result of a change of attributes or metadata.
-#[derive(Clone, Copy, Debug, PartialEq, Eq)]
+#[derive(Clone, Copy)]
 pub enum Set {
     /// The change was made.
     Done,
@@ -39,7 +39,7 @@ pub enum Set {
 }
 
 /// The result of a write or truncation.
-#[derive(Clone, Copy, Debug, PartialEq, Eq)]
+#[derive(Clone, Copy)]
 pub enum Wrote {
     /// The content was changed.
     Done,
@@ -48,7 +48,7 @@ pub enum Wrote {
 }
 
 /// The result of taking a piece into a collection.
-#[derive(Clone, Copy, Debug, PartialEq, Eq)]
+#[derive(Clone, Copy)]
 pub enum Piece {
     /// The content goes on after this piece.
     More,
@@ -57,7 +57,7 @@ pub enum Piece {
 }
 
 /// The result of a take.
-#[derive(Clone, Copy, Debug, PartialEq, Eq)]
+#[derive(Clone, Copy)]
 pub enum Taken {
     /// No digest was in force: a collection by this algorithm begins.
     Begun(Algo),
@@ -68,7 +68,7 @@ pub enum Taken {
 }
 
 /// The result of a writer's close.
-#[derive(Clone, Copy, Debug, PartialEq, Eq)]
+#[derive(Clone, Copy)]
 pub enum CloseTaken {
     /// A collection by this algorithm begins, for the label.
     Begun(Algo),
@@ -79,7 +79,7 @@ pub enum CloseTaken {
 }
 
 /// The violation that a check found, if any.
-#[derive(Clone, Copy, Debug, PartialEq, Eq)]
+#[derive(Clone, Copy)]
 pub enum Found {
     /// No violation.
     Quiet,

@@ -3,7 +3,7 @@ use crate::boxed_value::BoxedValue;
 use policy_rules::{Action, Func};
 
 /// How a file is opened, which determines the counts that it raises.
-#[derive(Clone, Copy, Debug, PartialEq, Eq)]
+#[derive(Clone, Copy, PartialEq, Eq)]
 pub enum How {
     /// Opened for reading only, and counted as a reader. With `create`, an absent file is created.
     Read { create: bool },
@@ -15,7 +15,7 @@ pub enum How {
 }
 
 /// A change of an inode's metadata.
-#[derive(Clone, Copy, Debug, PartialEq, Eq)]
+#[derive(Clone, Copy)]
 pub enum Change {
     /// A new mode, as `chmod` sets it.
     Mode(u16),

@@ -7,7 +7,7 @@ use inode_meta::{EvmStatus, Who};
 use label_values::Verdict;
 
 /// The outcome of a take or finish after which a digest is in force.
-#[derive(Clone, Copy, Debug, PartialEq, Eq)]
+#[derive(Clone, Copy)]
 pub struct Grant {
     /// The outcome of adding the entry to the measurement list, if the action measures.
     pub placed: Option<Placed>,

@@ -3,7 +3,7 @@ ghost use Rattle.inode_meta.specs.Words.{evm_status_word, mode_word};
 
 /// The EVM status of an inode: the result of comparing `security.evm` with its protected attributes
 /// and metadata (the kernel's `enum integrity_status`).
-#[derive(Clone, Copy, Debug, PartialEq, Eq)]
+#[derive(Clone, Copy, PartialEq, Eq)]
 pub enum EvmStatus {
     /// `security.evm` is the HMAC of the inode as it is.
     Pass,
@@ -36,7 +36,7 @@ impl EvmStatus {
 }
 
 /// The kind of label that an `appraise` rule requires.
-#[derive(Clone, Copy, Debug, PartialEq, Eq)]
+#[derive(Clone, Copy, PartialEq, Eq)]
 pub enum Need {
     /// A digest or a signature will do.
     Any,
@@ -45,7 +45,7 @@ pub enum Need {
 }
 
 /// The appraisal mode (the kernel's boot parameter `ima_appraise=`).
-#[derive(Clone, Copy, Debug, PartialEq, Eq)]
+#[derive(Clone, Copy, PartialEq, Eq)]
 pub enum Mode {
     /// A file is admitted exactly if its verdict is Pass.
     Enforce,
@@ -72,7 +72,7 @@ impl Mode {
 }
 
 /// A slot of cached verdicts: like the kernel's inode cache, an inode keeps one verdict for each.
-#[derive(Clone, Copy, Debug, PartialEq, Eq)]
+#[derive(Clone, Copy, PartialEq, Eq)]
 pub enum Slot {
     /// Opened files, and every function without a slot of its own.
     File,

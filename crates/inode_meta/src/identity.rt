@@ -1,5 +1,5 @@
 /// The metadata of an inode that EVM covers, including the UUID of its file system.
-#[derive(Clone, Copy, Debug, PartialEq, Eq)]
+#[derive(Clone, Copy, PartialEq, Eq)]
 pub struct Meta {
     /// The inode number (`i_ino`).
     pub ino: u64,
@@ -16,7 +16,7 @@ pub struct Meta {
 }
 
 /// The credentials of a task.
-#[derive(Clone, Copy, Debug, PartialEq, Eq)]
+#[derive(Clone, Copy)]
 pub struct Cred {
     /// The real user ID.
     pub uid: u32,

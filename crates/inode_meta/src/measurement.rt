@@ -9,7 +9,7 @@ pub const DEFAULT_PCR: u8 = 10;
 const _: () = prove!(DEFAULT_PCR == 10);
 
 /// The template of an entry of the measurement list (Documentation/security/IMA-templates.rst).
-#[derive(Clone, Copy, Debug, PartialEq, Eq)]
+#[derive(Clone, Copy, PartialEq, Eq)]
 pub enum Template {
     /// The fields `d` and `n`.
     Ima,
@@ -49,7 +49,7 @@ impl Template {
 }
 
 /// A field of a template, by its name in the documentation.
-#[derive(Clone, Copy, Debug, PartialEq, Eq)]
+#[derive(Clone, Copy)]
 pub enum Field {
     /// `d`: the SHA-1 digest, whatever algorithm the file was collected with.
     Digest,
@@ -66,7 +66,7 @@ pub enum Field {
 }
 
 /// A bank of platform configuration registers, named after its hash.
-#[derive(Clone, Copy, Debug, PartialEq, Eq)]
+#[derive(Clone, Copy)]
 pub enum Bank {
     /// The SHA-1 bank, with registers of 20 bytes.
     Sha1,

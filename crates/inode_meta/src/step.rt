@@ -1,6 +1,6 @@
 /// The position of a step in a run: the task, the task's call, and the step of that call, each
 /// counted from 0.
-#[derive(Clone, Copy, Debug, PartialEq, Eq)]
+#[derive(Clone, Copy)]
 pub struct Who {
     /// The task's number.
     pub task: u32,

@@ -10,7 +10,7 @@ use inode_events::{Event, How};
 
 /// What an open file counts as. A file that is open for writing is a writer and not a reader, and
 /// an execution is a reader too.
-#[derive(Clone, Copy, Debug, PartialEq, Eq)]
+#[derive(Clone, Copy)]
 pub enum Kind {
     /// Open for writing, whether or not it can be read too.
     Writer,
@@ -21,7 +21,7 @@ pub enum Kind {
 }
 
 /// The number of open files, by kind.
-#[derive(Clone, Copy, Debug, PartialEq, Eq)]
+#[derive(Clone, Copy, PartialEq, Eq)]
 pub struct Counts {
     /// Files that are open for writing.
     pub writers: u64,

@@ -8,7 +8,7 @@ use hash_algos::{Algo, AlgoSet};
 use inode_meta::{Need, Slot};
 
 /// The key under which a verdict is kept. `None` for `algos` differs from every set.
-#[derive(Clone, Copy, Debug, PartialEq, Eq)]
+#[derive(Clone, Copy)]
 pub struct Key {
     /// The slot of the check's hook.
     pub slot: Slot,

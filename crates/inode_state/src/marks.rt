@@ -11,7 +11,7 @@ use inode_events::labels::Verdict;
 use inode_events::{Deed, Event, Grant, Told};
 
 /// The marks of an inode: facts that steer its checks, grants and closes.
-#[derive(Clone, Copy, Debug, PartialEq, Eq)]
+#[derive(Clone, Copy)]
 pub struct Marks {
     /// The file exists.
     pub present: bool,

@@ -10,7 +10,7 @@ use inode_events::{Deed, Event, Told};
 use std::alloc::{AllocError as OutOfMemory, Global};
 
 /// A verdict in force, with its key.
-#[derive(Clone, Copy, Debug, PartialEq, Eq)]
+#[derive(Clone, Copy)]
 pub struct KeyedVerdict {
     /// The slot, label and algorithms for which the verdict was given.
     pub key: Key,

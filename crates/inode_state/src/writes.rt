@@ -10,7 +10,7 @@ use crate::events::{counted, modifies};
 use inode_events::Event;
 
 /// Summary of the writes and truncations that were done.
-#[derive(Clone, Copy, Debug, PartialEq, Eq)]
+#[derive(Clone, Copy)]
 pub struct Writes {
     /// The place of the last write or truncation.
     pub last: Option<u64>,

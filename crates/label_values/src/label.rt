@@ -25,7 +25,7 @@ const PORTABLE_SIGNATURE: u8 = 5;
 const VERITY_SIGNATURE: u8 = 6;
 
 /// The meaning of a value of `security.ima`.
-#[derive(Clone, Copy, Debug, PartialEq, Eq)]
+#[derive(Clone, Copy)]
 pub enum Label {
     /// There is no value, or an empty one.
     Missing,

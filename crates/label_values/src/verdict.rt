@@ -3,7 +3,7 @@ ghost use Rattle.label_values.specs.Verdicts.{cause_word};
 
 /// Why a file is denied, in the order in which the cases of the verdict first name the causes. The
 /// words are those of the kernel's audit records.
-#[derive(Clone, Copy, Debug, PartialEq, Eq)]
+#[derive(Clone, Copy, PartialEq, Eq)]
 pub enum Cause {
     /// `appraise_algos=` doesn't list the algorithm by which the file was hashed.
     DeniedHashAlgorithm,
@@ -42,7 +42,7 @@ impl Cause {
 }
 
 /// The result of appraisal: whether a file may be used.
-#[derive(Clone, Copy, Debug, PartialEq, Eq)]
+#[derive(Clone, Copy, PartialEq, Eq)]
 pub enum Verdict {
     /// Label, HMAC and file agree, or the rule asks nothing of the file.
     Pass,
@@ -51,7 +51,7 @@ pub enum Verdict {
 }
 
 /// The attributes that appraisal in fix mode writes.
-#[derive(Clone, Copy, Debug, PartialEq, Eq)]
+#[derive(Clone, Copy)]
 pub enum Mend {
     /// Nothing is written.
     Nothing,

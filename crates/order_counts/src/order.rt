@@ -8,7 +8,7 @@ use std::alloc::{AllocError as OutOfMemory, Global};
 use std::marker::Model;
 
 /// An order, or its first turns: the number of a task for each turn. Contracts see the list.
-#[derive(Debug, Drop)]
+#[derive(Drop)]
 pub struct Order {
     turns: Vec<u32>,
 }
@@ -84,7 +84,7 @@ fn first_of(alloc: Global, a: &Order, b: &Order) -> Result<Order, OutOfMemory>
 }
 
 /// An order, or its first turns, with a number of orders. Contracts see the record of the two.
-#[derive(Debug, Drop)]
+#[derive(Drop)]
 pub struct Counted {
     /// The first of the orders.
     pub order: Order,

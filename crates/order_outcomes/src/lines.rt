@@ -12,7 +12,7 @@ use std::slice;
 use xattr_store::Bytes;
 
 /// The two kinds of entries.
-#[derive(Clone, Copy, Debug, PartialEq, Eq)]
+#[derive(Clone, Copy)]
 pub enum Kind {
     /// Entries that aren't violations.
     Measurements,

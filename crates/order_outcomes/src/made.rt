@@ -7,7 +7,7 @@ use inode_events::EndedInode;
 use run_model::{Ended, EndedTask};
 
 /// How much a run has made. A turn that moves its task makes it more, and no other turn changes it.
-#[derive(Clone, Copy, Debug)]
+#[derive(Clone, Copy)]
 pub struct Made {
     /// The number of the inodes' events.
     pub events: u128,

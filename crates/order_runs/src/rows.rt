@@ -20,7 +20,7 @@ use xattr_store::Bytes;
 pub const MOST_TURNS: u32 = 1_048_576;
 
 /// Why there are no rows.
-#[derive(Clone, Copy, Debug, PartialEq, Eq)]
+#[derive(Clone, Copy)]
 pub enum Stopped {
     /// There are more moments than may be met, more turns than a schedule may have, or more orders
     /// than 128 bits can count.
@@ -40,7 +40,7 @@ impl From<OutOfMemory> for Stopped {
 }
 
 /// An outcome, with the number of the orders that have it and the first of them.
-#[derive(Debug, Drop)]
+#[derive(Drop)]
 pub struct Row {
     /// The first order, with the number of the orders.
     pub counted: Counted,

@@ -10,7 +10,7 @@ use inode_events::{Deed, Event, How, Told};
 use policy_rules::{Action, Func};
 
 /// What a journal says of a file: how it is held, and its last check.
-#[derive(Clone, Copy, Debug)]
+#[derive(Clone, Copy)]
 pub struct FileSeen {
     /// How the file is held, if it is.
     pub how: Option<How>,

@@ -11,7 +11,7 @@ use call_steps::Handle;
 use task_state::Progress;
 
 /// A file of an inode in one moment, and the same file in another.
-#[derive(Clone, Copy, Debug)]
+#[derive(Clone, Copy)]
 pub struct Pair {
     /// The number of the inode.
     pub inode: usize,

@@ -9,7 +9,7 @@ use hash_algos::{Algo, Running};
 use inode_meta::Bank;
 
 /// The 24 registers of each of the two banks.
-#[derive(Debug, Drop)]
+#[derive(Drop)]
 pub struct Banks {
     sha1: [[u8; 20]; 24],
     sha256: [[u8; 32]; 24],

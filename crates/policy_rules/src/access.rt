@@ -9,7 +9,7 @@ use std::marker::Model;
 use xattr_store::Bytes;
 
 /// A file system, by the properties that a rule can test.
-#[derive(Debug, Drop)]
+#[derive(Drop)]
 pub struct Super {
     /// Its magic number (`s_magic`).
     pub magic: u64,
@@ -37,7 +37,7 @@ const _: () = prove!(MAY_APPEND == 8);
 
 /// What a task wants to do with a file when the policy is consulted. It determines the hook and the
 /// access mask; [`Func::slot`] gives the slot of the verdict.
-#[derive(Clone, Copy, Debug, PartialEq, Eq)]
+#[derive(Clone, Copy)]
 pub enum Purpose {
     /// The file is opened for reading only.
     Read,
@@ -83,7 +83,7 @@ impl Purpose {
 }
 
 /// An access to a file, against which rules are matched.
-#[derive(Debug, Drop)]
+#[derive(Drop)]
 pub struct Access<'a> {
     /// The hook that consults the policy.
     pub func: Func,
@@ -104,7 +104,7 @@ pub struct Access<'a> {
 /// The register is below 24. If the access isn't measured, the register is 10, the default, and
 /// there is no template. If it isn't appraised, any kind of label will do and no algorithms are
 /// given. Contracts see a record of these fields, and the invariant is `IsAction`.
-#[derive(Clone, Copy, Debug, PartialEq, Eq)]
+#[derive(Clone, Copy)]
 pub struct Action {
     /// Whether the file is measured: an entry is added to the measurement list.
     pub measure: bool,

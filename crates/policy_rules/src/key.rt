@@ -9,7 +9,7 @@ ghost use Rattle.policy_rules.specs.Values.{is_sign};
 use crate::rule::Act;
 
 /// The subject of a condition or an option of a rule.
-#[derive(Clone, Copy, Debug, PartialEq, Eq)]
+#[derive(Clone, Copy)]
 pub enum Key {
     Func,
     Mask,

@@ -9,7 +9,6 @@ use std::marker::Model;
 pub const RULES: usize = 1024;
 
 /// A policy: at most 1,024 rules, in order. Contracts see the list of its rules.
-#[derive(Debug)]
 pub struct Policy {
     rules: Vec<Rule>,
 }

@@ -10,7 +10,7 @@ use xattr_store::Bytes;
 
 /// What a rule does with the accesses that it matches. The eight actions form four families of two:
 /// to do a thing, and not to do it.
-#[derive(Clone, Copy, Debug, PartialEq, Eq)]
+#[derive(Clone, Copy, PartialEq, Eq)]
 pub enum Act {
     /// `measure`: add an entry to the measurement list.
     Measure,
@@ -31,7 +31,7 @@ pub enum Act {
 }
 
 /// The hook that consults the policy (the kernel's `enum ima_hooks`), by its main name.
-#[derive(Clone, Copy, Debug, PartialEq, Eq)]
+#[derive(Clone, Copy, PartialEq, Eq)]
 pub enum Func {
     /// `BPRM_CHECK`: a file is executed.
     BprmCheck,
@@ -78,7 +78,7 @@ impl Func {
 }
 
 /// The test of an access mask by a rule.
-#[derive(Clone, Copy, Debug, PartialEq, Eq)]
+#[derive(Clone, Copy)]
 pub struct MaskTest {
     /// Whether the mask must equal these bits (`mask=M`) or only contain them (`mask=^M`).
     pub exact: bool,
@@ -100,7 +100,7 @@ impl MaskTest {
 }
 
 /// The test of a user or group ID by a rule.
-#[derive(Clone, Copy, Debug, PartialEq, Eq)]
+#[derive(Clone, Copy)]
 pub enum IdTest {
     /// `=`: the ID equals this number.
     Is(u32),
@@ -128,7 +128,7 @@ impl IdTest {
 ///
 /// Every rule can be written as a line, which is its invariant `IsRule`. Contracts see it as a
 /// record of these fields.
-#[derive(Debug, Drop)]
+#[derive(Drop)]
 pub struct Rule {
     /// What the rule does with the accesses that it matches.
     pub act: Act,

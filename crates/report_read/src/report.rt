@@ -4,7 +4,7 @@ use report_words::{Event, Span};
 use std::marker::Model;
 
 /// How a run ended.
-#[derive(Clone, Copy, Debug, PartialEq, Eq)]
+#[derive(Clone, Copy)]
 pub enum RunEnd {
     Done,
     Unfinished,
@@ -13,7 +13,7 @@ pub enum RunEnd {
 
 /// What stands before the journal of an inode: its line with the number and the path, the line of
 /// its digest in force, and its counts at the end of the run.
-#[derive(Clone, Copy, Debug, PartialEq, Eq)]
+#[derive(Clone, Copy)]
 pub struct InodeHead {
     pub line: Span,
     pub force: Span,
@@ -44,7 +44,7 @@ impl Model for Inode {
 }
 
 /// The reply to a call, whose number is the index of the reply in its task.
-#[derive(Clone, Copy, Debug, PartialEq, Eq)]
+#[derive(Clone, Copy)]
 pub struct Reply {
     pub line: Span,
     /// Whether it begins with `ok`.

@@ -3,14 +3,14 @@
 use inode_meta::Who;
 
 /// A line of the text, without its newline: the index of its first byte, and its length.
-#[derive(Clone, Copy, Debug, PartialEq, Eq)]
+#[derive(Clone, Copy)]
 pub struct Span {
     pub at: u32,
     pub len: u32,
 }
 
 /// How a count opens its file.
-#[derive(Clone, Copy, Debug, PartialEq, Eq)]
+#[derive(Clone, Copy)]
 pub enum Kind {
     /// `r`, a reader.
     Read,
@@ -24,7 +24,7 @@ pub enum Kind {
 
 /// The deed of an event line. A `file` is the place of the count that opened the file. The words
 /// that aren't kept are in the line.
-#[derive(Clone, Copy, Debug, PartialEq, Eq)]
+#[derive(Clone, Copy)]
 pub enum Deed {
     Birth,
     Count { kind: Kind, create: bool },
@@ -45,7 +45,7 @@ pub enum Deed {
 }
 
 /// What a grant says of the measurement list.
-#[derive(Clone, Copy, Debug, PartialEq, Eq)]
+#[derive(Clone, Copy)]
 pub enum Placed {
     /// Nothing: it names no entry.
     NotMeasured,
@@ -54,7 +54,7 @@ pub enum Placed {
 }
 
 /// The verdict of a grant. The cause of a denial is in the line.
-#[derive(Clone, Copy, Debug, PartialEq, Eq)]
+#[derive(Clone, Copy)]
 pub enum Verdict {
     /// The line has none.
     NotAppraised,
@@ -63,7 +63,7 @@ pub enum Verdict {
 }
 
 /// A grant.
-#[derive(Clone, Copy, Debug, PartialEq, Eq)]
+#[derive(Clone, Copy)]
 pub struct Grant {
     /// The place of the entry that it names, or 0 if it names none.
     pub entry: u32,
@@ -74,7 +74,7 @@ pub struct Grant {
 }
 
 /// The outcome of an event line. The status of an attribute's change is in the line.
-#[derive(Clone, Copy, Debug, PartialEq, Eq)]
+#[derive(Clone, Copy)]
 pub enum Outcome {
     /// Of a birth, whose line has no outcome.
     Born,
@@ -103,7 +103,7 @@ pub enum Outcome {
 }
 
 /// An event, with its line.
-#[derive(Clone, Copy, Debug, PartialEq, Eq)]
+#[derive(Clone, Copy)]
 pub struct Event {
     pub line: Span,
     /// All zeros for a birth.

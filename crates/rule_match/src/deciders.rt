@@ -11,7 +11,7 @@ use policy_rules::{Access, Act, Action, Rule};
 
 /// For each family, the index of the line that decides on an access, counted from 0, if one was
 /// found.
-#[derive(Clone, Copy, Debug, PartialEq, Eq)]
+#[derive(Clone, Copy)]
 pub struct Deciders {
     /// The line that decides between `measure` and `dont_measure`.
     pub measuring: Option<usize>,

@@ -4,7 +4,7 @@ ghost use Rattle.rule_match.specs.Decision.{is_of, is_done};
 use policy_rules::Act;
 
 /// A family of actions: to do a thing with an access, and not to do it.
-#[derive(Clone, Copy, Debug, PartialEq, Eq)]
+#[derive(Clone, Copy, PartialEq, Eq)]
 pub enum Family {
     /// The actions `measure` and `dont_measure`.
     Measuring,

@@ -8,7 +8,7 @@ use std::hash::{Hash, Hasher};
 
 /// The `func=` and the `fsmagic=` of a rule, either of which may be absent. Rules that agree in
 /// both form a group.
-#[derive(Clone, Copy, Debug, PartialEq, Eq)]
+#[derive(Clone, Copy, PartialEq, Eq)]
 pub struct Group {
     pub func: Option<Func>,
     pub magic: Option<u64>,

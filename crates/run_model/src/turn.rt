@@ -1,5 +1,5 @@
 /// The effect of a turn on its task.
-#[derive(Clone, Copy, Debug, PartialEq, Eq)]
+#[derive(Clone, Copy)]
 pub enum Turn {
     /// The task made a step.
     Moved,

@@ -10,7 +10,7 @@ use inode_meta::Mode;
 use run_model::steps::{Call, Course, Due, Handle, Held, Plan};
 
 /// The progress of a call between two steps.
-#[derive(Clone, Copy, Debug, PartialEq, Eq)]
+#[derive(Clone, Copy)]
 pub struct Progress {
     /// The next step, and the reply that comes with the last one unless a later step decides
     /// another.

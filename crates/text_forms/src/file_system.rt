@@ -42,7 +42,7 @@ pub fn uuid_of(text: &[u8]) -> Option<u128>
 }
 
 /// A magic number, displayed as `0x` and lower-case digits without leading zeros.
-#[derive(Clone, Copy, Debug, PartialEq, Eq)]
+#[derive(Clone, Copy)]
 pub struct Magic(pub u64);
 
 impl Display for Magic {
@@ -54,7 +54,7 @@ impl Display for Magic {
 }
 
 /// The UUID of a file system, displayed in the hyphenated form in lower case.
-#[derive(Clone, Copy, Debug, PartialEq, Eq)]
+#[derive(Clone, Copy)]
 pub struct FsUuid(pub u128);
 
 impl Display for FsUuid {

@@ -37,7 +37,6 @@ pub struct NoData;
 
 /// The extended attributes of an inode. Contracts see the list of pairs of name and value: the
 /// names are distinct and in byte order, and each value has at most [`MAX_VALUE`] bytes.
-#[derive(Debug)]
 pub struct Attrs {
     pairs: Vec<(Bytes, Bytes)>,
 }

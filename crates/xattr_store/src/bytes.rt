@@ -5,7 +5,6 @@ use std::marker::Model;
 
 /// A byte string that owns its memory: a path, a name or the value of an attribute. Contracts see
 /// its list of bytes.
-#[derive(Debug)]
 pub struct Bytes {
     bytes: Vec<u8>,
 }
