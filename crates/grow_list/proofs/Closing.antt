@@ -1,13 +1,13 @@
 -- The passes of a list, one for each number: each index of the list belongs to one pass.
-use Rattle.std.proofs.Common.{◌≡◌, ◌≢◌, ℕ, zero, suc, ◌+◌, ◌<◌, ◌≤◌, ◌==◌, List, [], ◌∷◌, ◌++◌, length, get_or, Some, Bool, true, false, cond, ◌||◌, eqb, refl, sym, ap, ◌∙◌, subst, ⊎_elim, arith, eq-eqb, ne_eqb}
+use Rattle.std.proofs.Common.{◌≡◌, ◌≢◌, ℕ, zero, suc, ◌+◌, ◌<◌, ◌≤◌, ◌==◌, List, [], ◌∷◌, ◌++◌, length, get_or, Some, Bool, true, false, cond, ◌||◌, eqb, refl, sym, ap, ◌∙◌, subst, ⊎_elim, arith, eq-eqb, ne_eqb, length-append}
 use Rattle.std.specs.Prelude.{All, count_by, slice_get}
-use Rattle.std.proofs.lemmas.Bool.{cases_eq}
+use Rattle.std.proofs.lemmas.Bool.{cases_eq, cases_lt}
 use Rattle.std.proofs.lemmas.Option.{same_Some, slice_get_within, get_or_from_slice_get}
 use Rattle.std.proofs.lemmas.List.Elements.{All-cons, All-head, All-tail, All-get_or, All-weaker, All-same}
 use Rattle.std.proofs.lemmas.List.{append-nil, nil_from_length}
 use Rattle.std.proofs.lemmas.List.Sums.{sum_by-cons}
 use Rattle.grow_list.specs.Entries.{entries_from, entries_of, has_place}
-use Rattle.grow_list.specs.Shown.{Grown, Passed, HasItsOwn, HasEach, Accounts, fresh}
+use Rattle.grow_list.specs.Shown.{ListName, Grown, Passed, HasItsOwn, HasEach, Accounts, fresh}
 use Rattle.grow_list.specs.Views.{listed, entries_in}
 use Rattle.grow_list.specs.declared.views.SeatView.{SeatView}
 use Rattle.grow_list.specs.Meetings.{Tallies}
@@ -15,6 +15,7 @@ use Rattle.grow_list.specs.Steps.{IsComplete}
 use Rattle.grow_list.specs.declared.views.Listed.{Listed}
 use Rattle.grow_list.specs.declared.views.Held.{Held}
 use mathlib.Core.List.{IsPrefix}
+use Rattle.grow_list.proofs.Own.{slice_get-before, slice_get-push}
 
 module _ {E : Type 0} where
   absent_in : (b : Bool) (k low : ℕ) (y : E) (ys : List (ℕ × E)) → k < low → has_place k ys ≡ false
@@ -142,6 +143,24 @@ module _ {E : Type 0} where
       at : (k : ℕ) (p : Passed E) → slice_get (own ∷ passes) k ≡ Some p → p.number ≡ k
       at zero p e = ap (λ (q : Passed E). q.number) (sym (same_Some own p e)) ∙ number
       at (suc k) p e = let is = numbered k p e in omega (arith, is)
+
+  -- fresh passes stay fresh when the next one joins them, also under an equal name
+  pub fresh_pushed : (old new : ListName) (number : ℕ) (passes : List (Passed E)) → new ≡ old
+      → length passes ≡ number
+      → ((k : ℕ) → k < length passes → slice_get passes k ≡ Some (fresh old k)) → (k : ℕ)
+      → k < length (passes ++ fresh old number ∷ [])
+      → slice_get (passes ++ fresh old number ∷ []) k ≡ Some (fresh new k)
+  fresh_pushed old new number passes name count each k within =
+      ⊎_elim
+      (λ (before : k < length passes). slice_get-before passes (fresh old number) k before
+      ∙ each k before)
+      (λ (past : length passes ≤ k). let last : k ≡ length passes =
+      omega (arith, length-append passes (fresh old number ∷ [])) in
+      ap (slice_get (passes ++ fresh old number ∷ [])) last
+      ∙ slice_get-push passes (fresh old number)
+      ∙ ap (λ (n : ℕ). Some (fresh old n)) (sym (last ∙ count)))
+      (cases_lt k (length passes))
+      ∙ ap (λ (n : ListName). Some (fresh n k)) (sym name)
 
   -- fresh passes in the order of their numbers are one for each number
   pub fresh_in_order : (g : Grown E) (passes : List (Passed E)) → length passes ≡ g.callers

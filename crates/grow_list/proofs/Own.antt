@@ -13,6 +13,13 @@ pub slice_get-push : {X : Type 0} (xs : List X) (x : X) → slice_get (xs ++ x �
 slice_get-push [] x = refl
 slice_get-push (y ∷ ys) x = slice_get-push ys x
 
+-- an element before the last one
+pub slice_get-before : {X : Type 0} (xs : List X) (x : X) (k : ℕ) → k < length xs
+    → slice_get (xs ++ x ∷ []) k ≡ slice_get xs k
+slice_get-before [] x k within = absurd (omega arith)
+slice_get-before (y ∷ ys) x zero within = refl
+slice_get-before (y ∷ ys) x (suc k) within = slice_get-before ys x k (omega arith)
+
 module _ {E : Type 0} where
   -- the entry (k, x) is one of those with the number n, if the first index is low
   Stands : ℕ → ℕ → List ℕ → List E → ℕ → E → Type 0
