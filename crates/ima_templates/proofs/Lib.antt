@@ -1,3 +1,4 @@
 pub mod DataLemmas
 pub mod SameLemmas
+pub mod EntryLemmas
 pub mod Examples
