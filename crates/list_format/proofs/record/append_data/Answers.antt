@@ -1,10 +1,10 @@
 -- The length of the template data is appended, and then the template data.
 use Rattle.std.proofs.Common.{rules, ◌≢◌, ◌++◌, arith, ap, ◌∙◌}
-use Rattle.std.proofs.lemmas.Grind.{common_steps}
+use Rattle.std.specs.Vec.{vec_len}
 use Rattle.byteorder.specs.Endian.{little_bytes}
 use Rattle.inode_meta.specs.declared.measurement.Template.TheVariants.{Ima}
 use Rattle.ima_templates.specs.Data.{sized, template_data}
-use Rattle.list_format.proofs.AppendLemmas.{appended-2, shown_data-sized}
+use Rattle.list_format.proofs.AppendLemmas.{appended-2, kept_append, kept_before, kept_same, shown_data-sized}
 use Rattle.list_format.proofs.record.append_data.Goals as goal
 
 pub returns-in_ok-absorb_data-in_default : goal.returns-in_ok-absorb_data-in_default
@@ -18,5 +18,21 @@ returns-in_ok-absorb_data-in_default c =
           (ap (λ n. little_bytes 4 n ++ template_data c.args.e.now)
           c.in_ok-data_length-in_default.ensures.exact
           ∙ shown_data-sized c.args.e.now c.args.e.now.template not_ima);
-      kept = first_of (search rules, grind (arith, common_steps));
+      kept = kept_append _ _ _ _ (omega arith)
+          (appended-2 c.args.out.now.items _ _
+          (little_bytes 4 c.in_ok-data_length-in_default.field-0) _
+          c.in_ok-append_number-in_default.ensures.ok c.in_ok-absorb_data-in_default.ensures.ok);
     }
+
+pub returns-in_err-append_number-in_default-clause-kept :
+    goal.returns-in_err-append_number-in_default-clause-kept
+returns-in_err-append_number-in_default-clause-kept c =
+    kept_same _ _ _ (omega arith) c.in_err-append_number-in_default.ensures.err
+
+pub returns-in_err-absorb_data-in_default-clause-kept :
+    goal.returns-in_err-absorb_data-in_default-clause-kept
+returns-in_err-absorb_data-in_default-clause-kept c =
+    kept_before c.args.out.now.items c.append_number.new.out.items _ _
+    (vec_len c.args.out.now) (vec_len c.append_number.new.out) (omega arith)
+    (omega arith) c.in_ok-append_number-in_default.ensures.ok
+    c.in_err-absorb_data-in_default.ensures.kept

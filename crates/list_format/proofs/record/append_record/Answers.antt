@@ -1,5 +1,7 @@
 -- The concatenated parts are the record.
-use Rattle.std.proofs.Common.{◌≡◌, ℕ, List, ◌++◌, ap, ◌∙◌}
+use Rattle.std.proofs.Common.{◌≡◌, ℕ, List, ◌++◌, ap, ◌∙◌, arith}
+use Rattle.std.specs.Vec.{vec_len}
+use Rattle.std.proofs.lemmas.Result.{err_from_is_err_and}
 use Rattle.byteorder.specs.Endian.{little_bytes}
 use Rattle.inode_meta.specs.Words.{template_word}
 use Rattle.inode_meta.specs.declared.measurement.Bank.TheVariants.{Sha1}
@@ -7,7 +9,7 @@ use Rattle.ima_templates.specs.declared.entry.Entry.{Entry}
 use Rattle.ima_templates.specs.Data.{sized}
 use Rattle.ima_templates.specs.Digests.{template_digest}
 use Rattle.list_format.specs.Record.{binary_record, shown_data}
-use Rattle.list_format.proofs.AppendLemmas.{appended-4}
+use Rattle.list_format.proofs.AppendLemmas.{appended-2, appended-3, appended-4, kept_append, kept_before, kept_same}
 use Rattle.list_format.proofs.record.append_record.Goals as goal
 
 pub returns-clause-ok : goal.returns-clause-ok
@@ -29,3 +31,52 @@ returns-clause-ok c =
     ∙ ap (λ w. parts (template_digest c.args.e.now Sha1).bytes w c.e.inside.pcr) word_is
     ∙ ap (λ n. parts (template_digest c.args.e.now Sha1).bytes
     (template_word c.args.e.now.template) n) pcr_is)
+
+pub returns-clause-kept : goal.returns-clause-kept
+returns-clause-kept c = kept_append _ _ _ _ (omega arith) (returns-clause-ok c)
+
+pub returns-in_err-append_number : goal.returns-in_err-append_number
+returns-in_err-append_number c =
+    let p = err_from_is_err_and c.from_residual.result c.from_residual.ensures.1 in
+    rw (p.1) record {
+      ok = tt;
+      kept = kept_same _ _ _ (omega arith) c.in_err-append_number.ensures.err;
+    }
+
+pub returns-in_err-extend_from_slice : goal.returns-in_err-extend_from_slice
+returns-in_err-extend_from_slice c =
+    let p = err_from_is_err_and c.from_residual-in_err-extend_from_slice.result
+    c.from_residual-in_err-extend_from_slice.ensures.1 in
+    rw (p.1) record {
+      ok = tt;
+      kept = kept_append _ _ _ _ (omega arith)
+          (c.in_err-extend_from_slice.ensures.items ∙ c.in_ok-append_number.ensures.ok);
+    }
+
+pub returns-in_err-append_sized : goal.returns-in_err-append_sized
+returns-in_err-append_sized c =
+    let p = err_from_is_err_and c.from_residual-in_err-append_sized.result
+    c.from_residual-in_err-append_sized.ensures.1 in
+    rw (p.1) record {
+      ok = tt;
+      kept = kept_before c.args.out.now.items c.extend_from_slice.new.self.items _ _
+          (vec_len c.args.out.now) (vec_len c.extend_from_slice.new.self) (omega arith)
+          (omega arith)
+          (appended-2 c.args.out.now.items _ _ (little_bytes 4 c.e.inside.pcr) _
+          c.in_ok-append_number.ensures.ok
+          c.in_ok-extend_from_slice.ensures.items)
+          c.in_err-append_sized.ensures.kept;
+    }
+
+pub returns-in_err-append_data : goal.returns-in_err-append_data
+returns-in_err-append_data c =
+    let p = err_from_is_err_and c.from_residual-in_err-append_data.result
+    c.from_residual-in_err-append_data.ensures.1 in
+    rw (p.1) record {
+      ok = tt;
+      kept = kept_before c.args.out.now.items c.append_sized.new.out.items _ _
+          (vec_len c.args.out.now) (vec_len c.append_sized.new.out) (omega arith) (omega arith)
+          (appended-3 _ _ _ _ _ _ _ c.in_ok-append_number.ensures.ok
+          c.in_ok-extend_from_slice.ensures.items c.in_ok-append_sized.ensures.ok)
+          c.in_err-append_data.ensures.kept;
+    }

@@ -1,0 +1,67 @@
+-- The concatenated parts are the head.
+use Rattle.std.proofs.Common.{[], ◌∷◌, ◌++◌, ap, ◌∙◌, arith}
+use Rattle.std.proofs.lemmas.Result.{err_from_is_err_and}
+use Rattle.hex.specs.Hex.{encode_lower}
+use Rattle.inode_meta.specs.Words.{template_word}
+use Rattle.ima_templates.specs.declared.entry.Entry.{Entry}
+use Rattle.list_format.specs.Line.{pcr_text}
+use Rattle.list_format.proofs.AppendLemmas.{appended-2, appended-3, appended-4, kept_append, kept_same}
+use Rattle.list_format.proofs.line.append_head.Goals as goal
+
+pub returns-clause-ok : goal.returns-clause-ok
+returns-clause-ok c =
+    let pcr = c.pcr_digits.ensures ∙ ap (λ (e : Entry). pcr_text e.pcr) c.e.view_is in
+    let sum = c.as_slice.ensures.bytes ∙ ap (λ d. d.bytes) c.sum.ensures.digest in
+    let word = c.as_bytes.ensures.value ∙ c.word.ensures
+    ∙ ap (λ (e : Entry). template_word e.template) c.e.view_is in
+    appended-4 _ _ _ _ _ _ _ _ _ c.in_ok-extend_from_slice.ensures.items
+    c.in_ok-append_hex.ensures.ok c.in_ok-extend_from_slice-2.ensures.items
+    c.in_ok-extend_from_slice-3.ensures.items
+    ∙ (λ i. c.args.out.now.items
+    ++ (((pcr i ++ 32 ∷ encode_lower (sum i)) ++ 32 ∷ []) ++ word i))
+
+pub returns-clause-kept : goal.returns-clause-kept
+returns-clause-kept c = kept_append _ _ _ _ (omega arith) (returns-clause-ok c)
+
+pub returns-in_err-extend_from_slice : goal.returns-in_err-extend_from_slice
+returns-in_err-extend_from_slice c =
+    let p = err_from_is_err_and c.from_residual.result c.from_residual.ensures.1 in
+    rw (p.1) record {
+      ok = tt;
+      kept = kept_same _ _ _ (omega arith) c.in_err-extend_from_slice.ensures.items;
+    }
+
+pub returns-in_err-append_hex : goal.returns-in_err-append_hex
+returns-in_err-append_hex c =
+    let p = err_from_is_err_and c.from_residual-in_err-append_hex.result
+    c.from_residual-in_err-append_hex.ensures.1 in
+    rw (p.1) record {
+      ok = tt;
+      kept = kept_append _ _ _ _ (omega arith)
+          (c.in_err-append_hex.ensures.err ∙ c.in_ok-extend_from_slice.ensures.items);
+    }
+
+pub returns-in_err-extend_from_slice-2 : goal.returns-in_err-extend_from_slice-2
+returns-in_err-extend_from_slice-2 c =
+    let p = err_from_is_err_and c.from_residual-in_err-extend_from_slice-2.result
+    c.from_residual-in_err-extend_from_slice-2.ensures.1 in
+    rw (p.1) record {
+      ok = tt;
+      kept = kept_append _ _ _ _ (omega arith)
+          (c.in_err-extend_from_slice-2.ensures.items
+          ∙ appended-2 c.args.out.now.items _ _ c.pcr_digits.result _
+          c.in_ok-extend_from_slice.ensures.items
+          c.in_ok-append_hex.ensures.ok);
+    }
+
+pub returns-in_err-extend_from_slice-3 : goal.returns-in_err-extend_from_slice-3
+returns-in_err-extend_from_slice-3 c =
+    let p = err_from_is_err_and c.from_residual-in_err-extend_from_slice-3.result
+    c.from_residual-in_err-extend_from_slice-3.ensures.1 in
+    rw (p.1) record {
+      ok = tt;
+      kept = kept_append _ _ _ _ (omega arith)
+          (c.in_err-extend_from_slice-3.ensures.items
+          ∙ appended-3 _ _ _ _ _ _ _ c.in_ok-extend_from_slice.ensures.items
+          c.in_ok-append_hex.ensures.ok c.in_ok-extend_from_slice-2.ensures.items);
+    }
