@@ -1,6 +1,8 @@
-use Rattle.std.proofs.Common.{◌≡◌, ◌-◌, ◌≤◌, length, take, drop, ap, sym, ◌∙◌, arith, length-append, length-drop, take-append-drop, drop_of_length-le}
+use Rattle.std.proofs.Common.{◌≡◌, ◌+◌, ◌-◌, ◌≤◌, length, take, drop, ap, sym, ◌∙◌, arith, length-append, length-drop, take-append-drop, drop_of_length-le}
 use Rattle.std.proofs.lemmas.List.{take_rest}
-use Rattle.ima_io.specs.Memory.{Feed}
+use Rattle.std.specs.Prelude.{min}
+use Rattle.ima_io.specs.Counts.{counted_on}
+use Rattle.ima_io.specs.Memory.{Feed, fails_at}
 use Rattle.ima_io.proofs.Parts.{front_given}
 use Rattle.ima_io.proofs.memory.source.MemSourceSource.read.Goals as goal
 
@@ -40,3 +42,50 @@ returns-clause-bytes c =
             c.self.invariant.1,
           )),
     )
+
+pub returns-clause-failed : goal.returns-clause-failed
+returns-clause-failed c =
+    let fails = c.deref.ensures.value ∙ ap (λ (s : Feed). s.fails) c.self.view_is in
+    sym c.if-fails.false ∙ c.contains-fails.ensures.value
+    ∙ (λ i. fails_at (fails i) (c.self.view_is i).call)
+
+pub returns-then-fails-clause-failed : goal.returns-then-fails-clause-failed
+returns-then-fails-clause-failed c =
+    let fails = c.deref.ensures.value ∙ ap (λ (s : Feed). s.fails) c.self.view_is in
+    sym c.if-fails.true ∙ c.contains-fails.ensures.value
+    ∙ (λ i. fails_at (fails i) (c.self.view_is i).call)
+
+pub returns-clause-given : goal.returns-clause-given
+returns-clause-given c =
+    let most = c.min.ensures
+    ∙ ap (λ (s : Feed). min (length c.args.buf.now) s.piece) c.self.view_is in
+    let left = take_rest c.deref-2.result.now c.self.inside.given
+    ∙ ap (drop c.self.inside.given) c.deref-2.ensures.value
+    ∙ ap (λ (s : Feed). s.left) c.self.view_is in
+    c.min-n.ensures ∙ (λ i. min (most i) (length (left i)))
+
+pub returns-clause-after : goal.returns-clause-after
+returns-clause-after c =
+    let call = c.saturating_add-self-inside.ensures
+    ∙ ap (λ (s : Feed). counted_on s.call) c.self.view_is in
+    λ i. record {
+      left = drop (c.self.inside.given + c.min-n.result) c.self.inside.bytes.items;
+      piece = (c.self.view_is i).piece;
+      fails = (c.self.view_is i).fails;
+      call = call i;
+      faults = (c.self.view_is i).faults;
+    }
+
+pub returns-then-fails-clause-after : goal.returns-then-fails-clause-after
+returns-then-fails-clause-after c =
+    let call = c.saturating_add-self-inside.ensures
+    ∙ ap (λ (s : Feed). counted_on s.call) c.self.view_is in
+    let faults = c.saturating_add-self-inside-then-fails.ensures
+    ∙ ap (λ (s : Feed). counted_on s.faults) c.self.view_is in
+    λ i. record {
+      left = drop c.self.inside.given c.self.inside.bytes.items;
+      piece = (c.self.view_is i).piece;
+      fails = (c.self.view_is i).fails;
+      call = call i;
+      faults = faults i;
+    }
