@@ -63,3 +63,14 @@ returns-clause-others c =
     (name_is c) (c.push-2.ensures.kept.1 ∙ c.reserve.ensures.list.callers)
     (ap (λ (p : Passed Entry). p.number) (own_is c))
     (subst (HasEach c.in_ok-list.list) (split c) c.in_ok-list.ensures.each)
+
+pub returns-clause-list : goal.returns-clause-list
+returns-clause-list c =
+    c.push-2.ensures.list ∙ ap (λ (l : List Entry). l ++ c.args.boot ∷ []) (list_is c)
+
+pub returns-clause-callers : goal.returns-clause-callers
+returns-clause-callers c =
+    c.push-2.ensures.kept.1 ∙ c.reserve.ensures.list.callers ∙ c.in_ok-list.ensures.list.2
+
+pub returns-clause-count : goal.returns-clause-count
+returns-clause-count c = omega (arith, c.in_ok-list.ensures.count, ap length (split c))
