@@ -1,7 +1,8 @@
 -- Entries with the same template and equal template data have equal digests, names and third
 -- fields.
-use Rattle.std.proofs.Common.{◌≡◌, ℕ, zero, suc, ◌^◌, ◌+◌, ◌-◌, ◌*◌, ◌%◌, ◌/◌, ◌<◌, ◌≤◌, ◌==◌, false, not, if◌then◌else◌, List, [], ◌∷◌, ◌++◌, length, take, drop, replicate, Some, arith, refl, ap, subst, sym, ◌∙◌, append_assoc, length-append, ne_eqb}
-use Rattle.std.proofs.lemmas.List.{length-replicate, append-nil, append_cancel_left, append_cancel_right}
+use Rattle.std.proofs.Common.{◌≡◌, ℕ, zero, suc, ◌^◌, ◌+◌, ◌-◌, ◌*◌, ◌%◌, ◌/◌, ◌<◌, ◌≤◌, ◌==◌, false, not, if◌then◌else◌, List, [], ◌∷◌, ◌++◌, length, get_or, take, drop, replicate, Some, arith, refl, ap, subst, sym, ◌∙◌, append_assoc, length-append, ne_eqb}
+use Rattle.std.proofs.lemmas.List.{length-replicate, append-nil, append_cancel_left, append_cancel_right, take_more}
+use Rattle.std.proofs.lemmas.List.Concat.{flat_map-append}
 use Rattle.std.proofs.Math.Seq.{take-append_seam, drop-append_seam}
 use Rattle.std.specs.List.{All, flat_map, take_while}
 use Rattle.byteorder.specs.Endian.{little_bytes}
@@ -365,3 +366,11 @@ length-template_data-fits e kept =
       length-fields-le (template_fields e.template) e.digest e.name e.sig (HasLengths-entry e kept),
       length-template_fields-le e.template,
     )
+
+-- the bytes of one more element
+pub flat_map-more : {X : Type 0} (f : X → List ℕ) (xs : List X) (i : ℕ) (d : X) → i < length xs
+    → flat_map f (take (i + 1) xs) ≡ flat_map f (take i xs) ++ f (get_or xs i d)
+flat_map-more f xs i d within =
+    ap (flat_map f) (take_more xs i d within)
+    ∙ flat_map-append f (take i xs) (get_or xs i d ∷ [])
+    ∙ ap (λ l. flat_map f (take i xs) ++ l) (append-nil (f (get_or xs i d)))

@@ -28,3 +28,13 @@ returns-in_ok-absorb_content-2-clause-ok g c =
     subst (λ (b : Bool). Absorbed (cond b (sized bytes) bytes))
     (sym (sym c.has_length.ensures ∙ c.if-has_length.true))
     (subst (λ (n : ℕ). Absorbed (little_bytes 4 n ++ bytes)) count both)
+
+pub returns-in_ok-absorb_content-2-clause-kept : goal.returns-in_ok-absorb_content-2-clause-kept
+returns-in_ok-absorb_content-2-clause-kept g c =
+    g.met.S.Absorb.keeps_further _ _ _ c.in_ok-absorb_number.ensures.kept
+    c.in_ok-absorb_content-2.ensures.kept
+
+pub returns-in_err-absorb_content-2-clause-kept : goal.returns-in_err-absorb_content-2-clause-kept
+returns-in_err-absorb_content-2-clause-kept g c =
+    g.met.S.Absorb.keeps_further _ _ _ c.in_ok-absorb_number.ensures.kept
+    c.in_err-absorb_content-2.ensures.kept
