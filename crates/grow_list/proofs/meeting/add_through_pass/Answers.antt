@@ -1,4 +1,4 @@
-use Rattle.std.proofs.Common.{◌≡◌, [], ◌∷◌, sym, ap, ◌∙◌, subst}
+use Rattle.std.proofs.Common.{◌≡◌, ◌+◌, [], ◌∷◌, length, refl, sym, ap, ◌∙◌, subst}
 use Rattle.grow_list.specs.declared.views.SeatView.{SeatView}
 use Rattle.grow_list.specs.declared.views.SeatView.TheVariants.{OfList, OfPass, ListBeside}
 use Rattle.grow_list.specs.Views.{listed, held, longer, heard, learned}
@@ -54,7 +54,47 @@ returns-clause-pass g c =
     let slots : c.take_in.new.pass.me.1 ≡ c.args.pass.now.me.1 =
     ap (λ m. m.1) c.take_in.ensures.pass.me ∙ ap (λ m. m.1) c.join_pass_to_list.ensures.pass.me
     ∙ ap (λ m. m.1) c.pass_sees_list.ensures.pass.me in
-    record { table_id = cc; id = cc; me = λ i. (pass_after g c i, slots i) }
+    record {
+      table_id = c.take_in.ensures.pass.table_id ∙ c.join_pass_to_list.ensures.pass.table_id
+          ∙ c.pass_sees_list.ensures.pass.table_id;
+      id = c.take_in.ensures.pass.id ∙ c.join_pass_to_list.ensures.pass.id
+          ∙ c.pass_sees_list.ensures.pass.id;
+      me = λ i. (pass_after g c i, slots i);
+    }
+
+pub returns-clause-list : goal.returns-clause-list
+returns-clause-list g c =
+    let slots : c.take_in.new.list.me.1 ≡ c.args.list.now.me.1 =
+    ap (λ m. m.1) c.take_in.ensures.list.me ∙ ap (λ m. m.1) c.add.ensures.me
+    ∙ ap (λ m. m.1) c.join_pass_to_list.ensures.list.me
+    ∙ ap (λ m. m.1) c.pass_sees_list.ensures.list.me in
+    record {
+      table_id = c.take_in.ensures.list.table_id ∙ c.add.ensures.table_id
+          ∙ c.join_pass_to_list.ensures.list.table_id ∙ c.pass_sees_list.ensures.list.table_id;
+      id = c.take_in.ensures.list.id ∙ c.add.ensures.id ∙ c.join_pass_to_list.ensures.list.id
+          ∙ c.pass_sees_list.ensures.list.id;
+      me = λ i. (list_after g c i, slots i);
+    }
+
+pub add-requires : goal.add-requires
+add-requires g c =
+    let seen = c.pass_sees_list.ensures.list in
+    let list = c.join_pass_to_list.ensures.list in
+    let view = ap (λ m. m.0) list.me in
+    let kept = ap (λ m. m.0) seen.me in
+    record {
+      seat = (
+        list.table_id ∙ seen.table_id ∙ c.requires.seats.0,
+        list.id ∙ seen.id ∙ c.requires.list.first,
+      );
+      words = c.requires.words;
+      view = view ∙ ap (λ v. ListBeside (listed v) (held v)) (sym view);
+      settled = ap (λ v. (listed v).pending) view ∙ ap (λ v. (listed v).pending) kept
+          ∙ c.requires.list.settled;
+      due = c.requires.due ∙ ap (λ v. length (listed v).list + 1) (sym kept)
+          ∙ ap (λ v. length (listed v).list + 1) (sym view);
+      entry = refl;
+    }
 
 pub returns-clause-after : goal.returns-clause-after
 returns-clause-after g c =
