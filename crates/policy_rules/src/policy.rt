@@ -73,11 +73,18 @@ impl Policy {
     pub fn copy(&self) -> Result<Policy, OutOfMemory>
         ensures { IfOk result (λ copy. copy ≡ self.now) }
     {
-        let alloc = *self.rules.allocator();
-        let mut rules = Vec::with_capacity(alloc, self.rules.len())?;
-        for rule in self.rules.iter() {
-            rules.push(rule.copy(alloc)?)?;
-        }
+        let rules = copy_rules(*self.rules.allocator(), &self.rules)?;
         Ok(Policy { rules })
     }
+}
+
+// Copies of the rules, each in its own memory.
+fn copy_rules(alloc: Global, rules: &[Rule]) -> Result<Vec<Rule>, OutOfMemory>
+    ensures { IfOk result (λ copy. copy.items ≡ rules.now) }
+{
+    let mut copy = Vec::with_capacity(alloc, rules.len())?;
+    for rule in rules {
+        copy.push_reserved(rule.copy(alloc)?);
+    }
+    Ok(copy)
 }

@@ -40,6 +40,21 @@ const FUNCS: [(&[u8], Func); 16] = [
     (b"MMAP_CHECK_REQPROT", Func::MmapCheckReqprot),
 ];
 
+// The bits of an access mask by their names.
+const MASK_BITS: [(&[u8], u8); 4] = [
+    (b"MAY_EXEC", 1),
+    (b"MAY_WRITE", 2),
+    (b"MAY_READ", 4),
+    (b"MAY_APPEND", 8),
+];
+
+// The templates that a rule can name.
+const TEMPLATES: [(&[u8], Template); 3] = [
+    (b"ima", Template::Ima),
+    (b"ima-ng", Template::ImaNg),
+    (b"ima-sig", Template::ImaSig),
+];
+
 /// The action with this name, such as `dont_measure`.
 pub fn act_of(word: &[u8]) -> Option<Act>
     ensures { result ≡ act_of word.now }
@@ -58,17 +73,7 @@ fn mask_bits_of(word: &[u8]) -> Option<u8>
     ensures value { result ≡ mask_bits_of word.now }
     ensures bit { IfSome result (λ bits. IsTrue (is_mask_bit bits)) }
 {
-    if word == b"MAY_EXEC".as_slice() {
-        Some(1)
-    } else if word == b"MAY_WRITE".as_slice() {
-        Some(2)
-    } else if word == b"MAY_READ".as_slice() {
-        Some(4)
-    } else if word == b"MAY_APPEND".as_slice() {
-        Some(8)
-    } else {
-        None
-    }
+    look_up(&MASK_BITS, word)
 }
 
 /// Parses the test of an access mask: the name of a bit, optionally after `^`.
@@ -94,10 +99,14 @@ pub fn id_of(text: &[u8]) -> Option<IdTest>
     ensures value { result ≡ id_of text.now }
     ensures id { IfSome result (λ test. IsTrue (is_id test)) }
 {
-    match text {
-        [b'=', digits @ ..] => Some(IdTest::Is(id_number_of(digits)?)),
-        [b'>', digits @ ..] => Some(IdTest::Above(id_number_of(digits)?)),
-        [b'<', digits @ ..] => Some(IdTest::Below(id_number_of(digits)?)),
+    let [sign, digits @ ..] = text else {
+        return None;
+    };
+    let number = id_number_of(digits)?;
+    match *sign {
+        b'=' => Some(IdTest::Is(number)),
+        b'>' => Some(IdTest::Above(number)),
+        b'<' => Some(IdTest::Below(number)),
         _ => None,
     }
 }
@@ -126,15 +135,7 @@ pub fn template_of(word: &[u8]) -> Option<Template>
     ensures value { result ≡ template_of word.now }
     ensures named { IfSome result (λ t. IsTrue (is_named_template t)) }
 {
-    if word == b"ima".as_slice() {
-        Some(Template::Ima)
-    } else if word == b"ima-ng".as_slice() {
-        Some(Template::ImaNg)
-    } else if word == b"ima-sig".as_slice() {
-        Some(Template::ImaSig)
-    } else {
-        None
-    }
+    look_up(&TEMPLATES, word)
 }
 
 /// Whether the word is a kind of label that the kernel knows but that isn't supported here.
