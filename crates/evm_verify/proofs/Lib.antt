@@ -1,2 +1,3 @@
+pub mod AnyName
 pub mod Messages
 pub mod Renewal

@@ -2,11 +2,11 @@ ghost use Rattle.std.specs.Option.{option_copied};
 ghost use Rattle.std.specs.Prelude.{◌≡◌, IfOk, OnErr, OnOk};
 ghost use Rattle.xattr_store.specs.Attrs.{Fits, changed};
 ghost use Rattle.evm_verify.specs.Changes.{allows_attr, allows_meta, may_change, may_set_meta, protects};
-ghost use Rattle.evm_verify.specs.Status.{evm_status, is_blank, renewed};
+ghost use Rattle.evm_verify.specs.Status.{compared, evm_status, is_blank, renewed};
 ghost use Rattle.evm_verify.specs.Input.{evm_input, evm_value, old_input};
 
 use crate::input::{HMAC_TYPE, VALUE_LEN, value_of};
-use crate::names::{any_present, any_present_after, copy_names, is_among, protected_names};
+use crate::names::{any_present, any_present_after, is_among, protected_names};
 use inode_meta::{EvmStatus, Meta};
 use std::alloc::{AllocError as OutOfMemory, Global};
 use std::marker::Model;
@@ -102,14 +102,12 @@ impl Evm {
     pub fn copy(&self) -> Result<Evm, OutOfMemory>
         ensures { IfOk result (λ copy. copy ≡ self.now) }
     {
-        let alloc = *self.names.allocator();
         let key = match &self.key {
-            Some(bytes) => Some(Bytes::from_slice(alloc, bytes.as_slice())?),
+            Some(bytes) => Some(bytes.as_slice()),
             None => None,
         };
-        let names = copy_names(alloc, &self.names)?;
-        let format = self.format;
-        Ok(Evm { key, names, format })
+        let alloc = *self.names.allocator();
+        Evm::new(alloc, key, &self.names[FIVE..], self.format)
     }
 
     /// Whether the name is a protected attribute.
@@ -152,14 +150,25 @@ impl Evm {
         };
         let value = attrs.hmac();
         if !any_present(&self.names, attrs) && is_blank(value) {
-            return EvmStatus::NoXattrs;
+            EvmStatus::NoXattrs
+        } else {
+            self.compared(key.as_slice(), value, attrs, meta)
         }
+    }
+
+    // The status by the value of `security.evm`, if there are protected attributes or the value
+    // doesn't have the form of an HMAC.
+    fn compared(&self, key: &[u8], value: Option<&[u8]>, attrs: &Attrs, meta: &Meta) -> EvmStatus
+        ensures { result ≡ compared (option_copied value.entry)
+            (evm_value key.now (evm_input self.now attrs.now meta.now))
+            (evm_value key.now (old_input attrs.now meta.now)) }
+    {
         let Some(bytes) = value else {
             return EvmStatus::NoLabel;
         };
-        if bytes == self.value_now(key.as_slice(), attrs, meta).as_slice() {
+        if bytes == self.value_now(key, attrs, meta).as_slice() {
             EvmStatus::Pass
-        } else if bytes == self.value_old(key.as_slice(), attrs, meta).as_slice() {
+        } else if bytes == self.value_old(key, attrs, meta).as_slice() {
             EvmStatus::Old
         } else {
             EvmStatus::Fail

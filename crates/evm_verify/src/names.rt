@@ -49,20 +49,16 @@ pub fn protected_names(alloc: Global, added: &[Bytes]) -> Result<Vec<Bytes>, Out
     Ok(names)
 }
 
-// A copy of the list of names.
-pub fn copy_names(alloc: Global, names: &[Bytes]) -> Result<Vec<Bytes>, OutOfMemory>
-    ensures { IfOk result (λ copy. copy.items ≡ names.now) }
-{
-    let mut copy = Vec::new(alloc);
-    append(alloc, &mut copy, names)?;
-    Ok(copy)
-}
-
 // Whether the name is in the list.
 pub fn is_among(name: &[u8], names: &[Bytes]) -> bool
     ensures { result ≡ list_any (bytes_eq name.now) names.now }
 {
-    names.iter().any(|other| name == other.as_slice())
+    for other in names {
+        if name == other.as_slice() {
+            return true;
+        }
+    }
+    false
 }
 
 /// Whether the name is a protected attribute, if these names are added to the kernel's five.
@@ -75,16 +71,24 @@ pub fn is_protected(name: &[u8], added: &[Bytes]) -> bool
 fn is_one_of(name: &[u8], names: &[&[u8]]) -> bool
     ensures { result ≡ list_any (λ other. bytes_eq name.now other.now) names.now }
 {
-    names.iter().any(|other| name == *other)
+    for other in names {
+        if name == *other {
+            return true;
+        }
+    }
+    false
 }
 
 // Whether at least one of the names is present, or would be after a change.
 pub fn any_present_after(names: &[Bytes], attrs: &After<'_>) -> bool
     ensures { result ≡ any_present names.now attrs.now }
 {
-    names
-        .iter()
-        .any(|name| attrs.get(name.as_slice()).is_some())
+    for name in names {
+        if attrs.get(name.as_slice()).is_some() {
+            return true;
+        }
+    }
+    false
 }
 
 // Whether at least one of the names is present.
