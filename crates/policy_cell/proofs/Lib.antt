@@ -1,1 +1,2 @@
 pub use Rattle.grow_list.proofs as about_growing
+pub mod Rules

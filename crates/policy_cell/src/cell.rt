@@ -117,9 +117,7 @@ impl PolicyCell {
             (IsSameList self.old.appended self.new.appended × (pass.new ≡ pass.old)) }
     {
         let place = self.index.rules().len() as u64;
-        let copy = rule.copy(alloc)?;
-        self.appended.reserve(1)?;
-        self.index.append(rule)?;
+        let copy = append_indexed(alloc, &mut self.index, &mut self.appended, rule)?;
         self.appended.push(pass, RuleEntry { who, rule: copy });
         Ok(place)
     }
@@ -174,4 +172,24 @@ impl PolicyCell {
         } = self;
         appended.close(passes)
     }
+}
+
+// Appends the rule to the index, and returns another copy of it for the list of appended rules,
+// which has room for it then. If memory runs out, both keep their rules.
+fn append_indexed(
+    alloc: Global,
+    index: &mut Index,
+    appended: &mut Grow<RuleEntry>,
+    rule: &Rule,
+) -> Result<Rule, OutOfMemory>
+    ensures copy { IfOk result (λ copy. copy ≡ rule.now) }
+    ensures index { OnOk result (index.new ≡ index.old ++ rule.now ∷ []) }
+    ensures room { OnOk result (1 ≤ appended.new.spare) }
+    ensures list { IsSameList appended.old appended.new }
+    ensures err { OnErr result (index.new ≡ index.old) }
+{
+    let copy = rule.copy(alloc)?;
+    appended.reserve(1)?;
+    index.append(rule)?;
+    Ok(copy)
 }
