@@ -1,4 +1,5 @@
 mod Examples
+pub mod Added
 pub mod Lookups
 pub mod Places
 pub mod Lines
