@@ -13,11 +13,10 @@ ghost use Rattle.journal_laws.specs.OwnLaws.{TellsByMine};
 ghost use Rattle.journal_laws.specs.Own.{IsBy, IsOwned};
 ghost use Rattle.inode_state.specs.Value.{HasOthers, IsSameJournal, beside_own, birth_of, new_pass};
 
-use crate::showing::show;
+use crate::beginning::begun;
 use crate::{Facts, State, counted};
 use grow_list::{Grow, Pass};
-use inode_events::{BoxedImage, Deed, Event, How, Image, Settings, Told};
-use inode_meta::Who;
+use inode_events::{Event, How, Image, Settings};
 use std::alloc::{AllocError as OutOfMemory, Global};
 use std::marker::Model;
 use xattr_store::Bytes;
@@ -183,13 +182,8 @@ impl InodeJournal {
             → slice_get r.1.items k ≡ Some (new_pass r.0.name r.0.list (k + 1))) }
         ensures others { IfOk result (λ r. HasOthers r.0 r.1.items) }
     {
-        let (mut journal, mut passes) = Grow::start(alloc, tasks + 1)?;
-        let mut own = passes.remove(0);
-        journal.reserve(1)?;
         let state = State::born(alloc, &image);
-        let birth = born(alloc, image)?;
-        journal.push(&mut own, birth);
-        show(&mut journal, &mut passes);
+        let (journal, own, passes) = begun(alloc, image, tasks)?;
         let kept = InodeJournal {
             path,
             settings,
@@ -226,21 +220,4 @@ impl InodeJournal {
         } = self;
         (path, journal.close_with(own, passes), state)
     }
-}
-
-// The birth of an inode with this image.
-fn born(alloc: Global, image: Image) -> Result<Event, OutOfMemory>
-    ensures { IfOk result (λ birth. birth ≡ birth_of image) }
-{
-    let image = BoxedImage::new(alloc, image)?;
-    let who = Who {
-        task: 0,
-        call: 0,
-        step: 0,
-    };
-    Ok(Event {
-        who,
-        deed: Deed::Birth,
-        told: Told::Image(image),
-    })
 }

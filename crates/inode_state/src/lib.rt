@@ -11,6 +11,7 @@
 //! agrees with the journal.
 #![tactic(auto)]
 
+mod beginning;
 mod collecting;
 mod counts;
 mod events;
