@@ -22,6 +22,15 @@ use Rattle.inode_events.specs.declared.told.Told.{Told}
 use Rattle.inode_cell.specs.Acts.{Acts, MayBy}
 use Rattle.inode_cell.specs.Value.{CellValue, IsSameCell}
 
+pub same_self : (v : CellValue) → IsSameCell v v
+same_self v = record {
+  inode = refl;
+  journal = refl;
+  callers = refl;
+  book = refl;
+  booked = refl;
+}
+
 -- two cells with the same journal differ at most in their room
 pub same_value : (old mid : CellValue) → mid.list ≡ old.list → IsSameCell old mid
     → mid ≡ record old { spare = mid.spare }
@@ -75,6 +84,16 @@ pub acts_ok : (old mid new : CellValue) (list list2 : List Entry) (pass pass2 : 
 acts_ok old mid new list list2 pass pass2 who d t o l s e x =
     subst (λ (y : Option Told). Acts old new list list2 pass pass2 who d y) e (acts_from old mid
     new list list2 pass pass2 who d (Some t) l s x)
+
+-- the same, from within the cell
+pub acts_inside : (old mid inside new : CellValue) (list list2 : List Entry) (pass pass2 : Passed
+    Event) (who : Who) (d : Deed) (t u : Told)
+    → mid.list ≡ old.list → IsSameCell old mid → inside ≡ mid → t ≡ u
+    → Acts inside new list list2 pass pass2 who d (Some t)
+    → Acts old new list list2 pass pass2 who d (Some u)
+acts_inside old mid inside new list list2 pass pass2 who d t u l s v e x =
+    acts_ok old mid new list list2 pass pass2 who d t (Some u) l s (ap Some e) (subst (λ (c :
+    CellValue). Acts c new list list2 pass pass2 who d (Some t)) v x)
 
 -- a deed that may be done may still be done once room is made
 pub may_from : (old mid : CellValue) (n : ℕ) (d : Deed) → mid.list ≡ old.list → IsSameCell old mid

@@ -6,12 +6,14 @@ use Rattle.hash_algos.specs.Digest.{digest_of}
 use Rattle.hash_algos.specs.declared.algo.Algo.TheVariants.{Sha1}
 use Rattle.hash_algos.specs.declared.digest.Digest.{Digest}
 use Rattle.ima_templates.specs.Entries.{entry_of}
+use Rattle.ima_templates.specs.declared.entry.Entry.{Entry}
 use Rattle.ima_templates.specs.declared.entry.Placed.{Placed}
 use Rattle.inode_events.specs.Asked.{measured_if}
 use Rattle.inode_events.specs.Checks.{last_check}
 use Rattle.inode_events.specs.Grants.{grant_of}
 use Rattle.inode_events.specs.Inode.{Inode}
 use Rattle.inode_meta.specs.declared.identity.Meta.{Meta}
+use Rattle.inode_meta.specs.declared.step.Who.{Who}
 use Rattle.xattr_store.specs.Attrs.{Pair}
 use Rattle.inode_answers.specs.Changes.{mended_on}
 use Rattle.inode_events.specs.Integrity.{Collection, Digests, collecting, digest_from, digests_of, fixed_by, label}
@@ -23,15 +25,17 @@ use Rattle.inode_events.specs.Stage.{is_collecting, stage}
 use Rattle.inode_events.specs.declared.deed.Deed.{Deed}
 use Rattle.inode_events.specs.declared.deed.Deed.TheVariants as deed
 use Rattle.inode_events.specs.declared.told.Event.{Event}
+use Rattle.inode_events.specs.declared.told.Grant.{Grant}
 use Rattle.inode_events.specs.declared.told.Told.TheVariants as told
 use Rattle.inode_state.specs.Collecting.{HasAsked, IfAsked, IsAsked, Short, short_of, short_seen, shortened, shorts_seen}
 use Rattle.inode_state.specs.InForce.{sums_of}
 use Rattle.inode_state.specs.declared.collecting.Asked.{Asked}
 use Rattle.inode_state.specs.declared.collecting.Collecting.{Collecting}
+use Rattle.inode_state.specs.declared.facts.Facts.{Facts}
 use Rattle.inode_state.specs.declared.in_force.Sums.{Sums}
 use Rattle.inode_state.specs.laws_of_journals.Standing.{collecting_stage}
 use Rattle.inode_state.proofs.laws_of_journals.Stages.{Collects, StageIs, stage_collects}
-use Rattle.inode_cell.specs.Granting.{asked_in, collected_stage, digests_in, sums_in, sums_in_force}
+use Rattle.inode_cell.specs.Granting.{IsEntering, IsGranting, asked_in, collected_stage, digests_in, placing, sums_in, sums_in_force}
 use Rattle.inode_cell.specs.Pieces.{IsPieceDeed}
 use Rattle.inode_cell.specs.Value.{CellValue, IsSameCell}
 use Rattle.inode_cell.proofs.Acting.{same_value}
@@ -50,6 +54,21 @@ pub mended_is : (i : Inode) (mends : Bool) (digest : Digest) (meta : Meta) (attr
     ≡ fixed_by i mends (Some digest) meta attrs
 mended_is i true digest meta attrs = refl
 mended_is i false digest meta attrs = refl
+
+-- a grant answered as the journal defines is entered with the entry that it asks for
+pub entering : (i : Inode) (p : List Event) (who : Who) (d : Deed) (file : ℕ) (a : Asked) (sums :
+    Sums) (g : Grant) (e : Option Entry) (k : Facts) → IsGranting i p who d file a sums k
+    → ((placed : Placed) → placing a.action placed g ≡ grant_of i file placed sums.digest p)
+    → e ≡ measured_if (last_check file p).action.measure i file (Some (digests_in sums)) p
+    → IsEntering i p who d a.action sums.digest g e k
+entering i p who d file a sums g e k x answered measured = record {
+  tells = λ placed. x.tells placed
+      ∙ ap (λ (h : Grant). Some (told.Grant h)) (sym (answered placed));
+  lists = measured ∙ sym x.asks;
+  leaves = x.leaves;
+  keeps = x.keeps;
+  facts = x.facts;
+}
 
 -- an option isn't both `None` and `Some`
 none_some : (o : Option Collection) (c : Collection) → o ≡ None → o ≡ Some c → ⊥

@@ -1,4 +1,5 @@
 pub mod Steps
+pub mod WritingLemmas
 pub mod Acting
 pub mod Guarding
 pub mod GrantLemmas

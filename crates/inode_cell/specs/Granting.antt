@@ -1,11 +1,13 @@
 -- What a take or finish needs for its grant.
 use Rattle.std.specs.Prelude.{◌≡◌, ℕ, List, Option, Some, None}
 use Rattle.hash_algos.specs.declared.algo.Algo.TheVariants.{Sha1}
+use Rattle.hash_algos.specs.declared.digest.Digest.{Digest}
+use Rattle.ima_templates.specs.declared.entry.Entry.{Entry}
 use Rattle.ima_templates.specs.declared.entry.Placed.{Placed}
 use Rattle.inode_meta.specs.declared.step.Who.{Who}
 use Rattle.inode_events.specs.Asked.{asked, measured_if}
 use Rattle.inode_events.specs.Checks.{last_check}
-use Rattle.inode_events.specs.Grants.{grant_of}
+use Rattle.inode_events.specs.Grants.{grant_of, placed_if_measured}
 use Rattle.inode_events.specs.Inode.{Inode}
 use Rattle.inode_events.specs.Integrity.{Collection, Digests, attributes, attributes_after, fixed_by, integrity}
 use Rattle.inode_events.specs.Says.{says}
@@ -15,6 +17,7 @@ use Rattle.inode_events.specs.declared.deed.Deed.{Deed}
 use Rattle.inode_events.specs.declared.told.Event.{Event}
 use Rattle.inode_events.specs.declared.told.Grant.{Grant}
 use Rattle.inode_events.specs.declared.told.Told.TheVariants as told
+use Rattle.inode_events.specs.policy.declared.access.Action.{Action}
 use Rattle.inode_state.specs.Collecting.{IsAsked}
 use Rattle.inode_state.specs.Facts.{AreFacts}
 use Rattle.inode_state.specs.declared.collecting.Asked.{Asked}
@@ -39,6 +42,20 @@ pub record IsGranting (inode : Inode) (p : List Event) (who : Who) (d : Deed) (f
       fixed_by inode g.labelled (Some sums.digest) (metadata p) (attributes inode p)
   pub keeps : (g : Grant) → content_after d (told.Grant g) (content p) ≡ content p
   pub facts : (g : Grant) → AreFacts inode p (record { who = who; deed = d; told = told.Grant g }) k
+
+-- the grant, with its entry where the action measures
+abbrev pub placing : Action → Placed → Grant → Grant
+placing action placed g = record g { placed = placed_if_measured action placed }
+
+-- the deed enters the grant, which lists `e` and mends the attributes by the digest
+pub record IsEntering (inode : Inode) (p : List Event) (who : Who) (d : Deed) (action : Action)
+    (digest : Digest) (g : Grant) (e : Option Entry) (k : Facts) : Type 0 where
+  pub tells : (placed : Placed) → says inode p placed d ≡ Some (told.Grant (placing action placed g))
+  pub lists : e ≡ asked inode d p
+  pub leaves : (h : Grant) → attributes_after inode d (told.Grant h) p (integrity inode p) ≡
+      fixed_by inode h.labelled (Some digest) (metadata p) (attributes inode p)
+  pub keeps : (h : Grant) → content_after d (told.Grant h) (content p) ≡ content p
+  pub facts : (h : Grant) → AreFacts inode p (record { who = who; deed = d; told = told.Grant h }) k
 
 -- the digests without the begin of their collection
 abbrev pub sums_in : Digests → Sums

@@ -1,5 +1,6 @@
 ghost use Rattle.std.specs.Prelude.{◌≡◌, ◌≤◌, List, None, Some, OnErr, OnOk};
 ghost use Rattle.std.specs.Option.{option_copied};
+ghost use Rattle.grow_list.specs.Shown.{IsSameList};
 ghost use Rattle.ima_templates.specs.declared.entry.Entry.{Entry as AnyEntry};
 ghost use Rattle.inode_events.specs.Callers.{caller_in};
 ghost use Rattle.inode_events.specs.Asked.{outcome};
@@ -18,6 +19,7 @@ use inode_events::{Deed, Event, Told};
 use inode_meta::Who;
 use inode_pages::Content;
 use inode_state::{Facts, InodeJournal};
+use measure_book::Book;
 use std::alloc::{AllocError as OutOfMemory, Global};
 use std::marker::Model;
 use xattr_store::Attrs;
@@ -86,10 +88,11 @@ impl InodeCell {
             pass.old pass.new who deed (Some told)) }
         ensures err { OnErr result (Stays self.old self.new pass.old pass.new) }
     {
+        let event = Event { who, deed, told };
         let meta = self.kept.state().meta;
         let evm = &self.kept.settings().evm;
-        rewrite(evm, &mut self.attrs, &meta, &deed, digest)?;
-        self.kept.enter(pass, Event { who, deed, told }, facts);
+        rewrite(evm, &mut self.attrs, &meta, &event.deed, digest)?;
+        self.kept.enter(pass, event, facts);
         Ok(())
     }
 
@@ -100,6 +103,18 @@ impl InodeCell {
         ensures same { IsSameCell self.old self.new }
     {
         self.kept.reserve()
+    }
+
+    // Makes room for the next event and for the next entry of the measurement list.
+    pub(crate) fn reserve_with(&mut self, book: &mut Book) -> Result<(), OutOfMemory>
+        ensures room { OnOk result (1 ≤ self.new.spare) }
+        ensures book_room { OnOk result (1 ≤ book.new.spare) }
+        ensures list { self.new.list ≡ self.old.list }
+        ensures same { IsSameCell self.old self.new }
+        ensures book { IsSameList book.old book.new }
+    {
+        self.reserve()?;
+        book.reserve()
     }
 
     // A blocked step: the pass sees the journal, and nothing else happens.

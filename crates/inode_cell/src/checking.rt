@@ -121,8 +121,7 @@ impl InodeCell {
             state.marks.must_measure,
         );
         let entry = self.violation(found(writing, action.measure, readers, writers, must, 0))?;
-        self.reserve()?;
-        book.reserve()?;
+        self.reserve_with(book)?;
         let placed = list_asked(book, &mut self.book, entry);
         let place = place_of(placed);
         let found = found(writing, action.measure, readers, writers, must, place);

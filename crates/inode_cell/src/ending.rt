@@ -38,6 +38,17 @@ fn digest_in(in_force: Option<InForce>) -> Option<Digest>
     }
 }
 
+// Copies of the path and of the image's content and attributes.
+fn copies(alloc: Global, path: &[u8], image: &Image) -> Result<(Bytes, Content, Attrs), OutOfMemory>
+    ensures { IfOk result (λ r. (r.0 ≡ path.now)
+        × ((r.1 ≡ image.now.content) × (r.2 ≡ image.now.attrs))) }
+{
+    let content = image.content.share(alloc)?;
+    let attrs = image.attrs.copy()?;
+    let path = Bytes::from_slice(alloc, path)?;
+    Ok((path, content, attrs))
+}
+
 impl InodeCell {
     /// Creates an inode from an image, with a pass for each task: the pass of task t has the number
     /// t + 1, has seen the birth and has no event of its own. `book` is the cell's pass of the
@@ -68,9 +79,7 @@ impl InodeCell {
             → slice_get r.1.items k ≡ Some (new_pass r.0.journal r.0.list (k + 1))) }
         ensures others { IfOk result (λ r. HasPasses r.0 r.1.items) }
     {
-        let content = image.content.share(alloc)?;
-        let attrs = image.attrs.copy()?;
-        let path = Bytes::from_slice(alloc, path)?;
+        let (path, content, attrs) = copies(alloc, path, &image)?;
         let (kept, passes) = InodeJournal::start(alloc, path, settings, image, tasks)?;
         let cell = InodeCell {
             kept,

@@ -9,28 +9,24 @@ ghost use Rattle.inode_state.specs.Facts.{AreFacts};
 ghost use Rattle.inode_cell.specs.Granting.{Collects, asked_in};
 ghost use Rattle.inode_cell.specs.Acts.{Acts, MayBy, Stays};
 ghost use Rattle.inode_answers.specs.Answers.{BeginsBy, taken_told};
-ghost use Rattle.inode_cell.specs.Granting.{IsGranting, asked_stage, collected_stage, digests_in, sums_in_force};
+ghost use Rattle.inode_cell.specs.Granting.{IsEntering, IsGranting, asked_stage, collected_stage, digests_in, sums_in_force};
 ghost use Rattle.inode_cell.specs.Sums.{HasSums};
-ghost use Rattle.inode_events.specs.Checks.{Check, appraises, last_check, slot_of};
-ghost use Rattle.inode_events.specs.Grants.{admits, is_mend, mend_of, mends, placed_if_measured, verdict_for};
+ghost use Rattle.inode_events.specs.Checks.{last_check, slot_of};
 ghost use Rattle.inode_events.specs.Integrity.{chosen_algo, collecting, in_force, label};
 ghost use Rattle.inode_events.specs.Listing.{signature_in};
 ghost use Rattle.inode_events.specs.NewestFirst.{newest_first};
-ghost use Rattle.inode_events.specs.Verdicts.{judged};
 ghost use Rattle.inode_state.specs.Collecting.{IsAsked};
 ghost use Rattle.xattr_store.specs.Attrs.{most_value};
 
 use crate::cell::InodeCell;
 use crate::listing::list_asked;
 use grow_list::Pass;
-use hash_algos::{Algo, AlgoSet, Digest};
-use ima_appraise::{mend_for, verdict};
-use ima_templates::{Entry, Placed, build};
-use inode_answers::{Taken, admits, is_mend, mend_on, placed_if_measured, signature_in};
+use hash_algos::{Algo, Digest};
+use ima_templates::{Entry, build};
+use inode_answers::{Taken, mend_on, placed_if_measured, signature_in};
 use inode_events::{Deed, Event, Grant, Told};
-use inode_meta::{EvmStatus, Mode, Need, Slot, Who};
-use inode_state::{Asked, Collecting, Facts, Kind, Sums, copied, counts_as, key_of};
-use label_values::{Mend, Verdict, read_label};
+use inode_meta::{Slot, Who};
+use inode_state::{Asked, Collecting, Facts, Kind, Sums, copied, counts_as};
 use measure_book::Book;
 use rule_match::policy::Action;
 use std::alloc::AllocError as OutOfMemory;
@@ -47,79 +43,6 @@ fn asked_in(collecting: &Option<Collecting>) -> Option<Asked>
 }
 
 impl InodeCell {
-    // Whether the file is appraised: the rules ask for it, and the mode isn't off.
-    fn appraises(&self, action: &Action) -> bool
-        ensures { result ≡ appraises self.now.inode action.now }
-    {
-        action.appraise && !matches!(self.kept.settings().mode, Mode::Off)
-    }
-
-    // The verdict computed afresh over this digest.
-    fn judged(&self, need: Need, algos: Option<AlgoSet>, digest: &Digest) -> Verdict
-        ensures { result ≡ judged self.now.inode need algos digest.now
-            (newest_first self.now.list) }
-    {
-        verdict(
-            need,
-            algos,
-            self.label(),
-            self.status(),
-            digest,
-            self.kept.settings().hash,
-            self.size(),
-            self.is_new(),
-        )
-    }
-
-    // The verdict, if the file is appraised: the one in force, or else one computed over this
-    // digest.
-    fn verdict_for(&self, asked: &Asked, digest: &Digest) -> Option<Verdict>
-        ensures { (check : Check) → IsAsked check asked.now
-            → result ≡ verdict_for self.now.inode check digest.now (newest_first self.now.list) }
-    {
-        if !self.appraises(&asked.action) {
-            return None;
-        }
-        match self.kept.state().verdicts.get(key_of(asked)) {
-            Some(verdict) => Some(verdict),
-            None => Some(self.judged(asked.action.need, asked.action.algos, digest)),
-        }
-    }
-
-    // The change that mode fix would make for the verdict.
-    fn mend_of(&self, action: &Action, digest: &Digest, found: Verdict) -> Mend
-        ensures { result ≡ mend_of self.now.inode action.now digest.now found
-            (newest_first self.now.list) }
-    {
-        let default = self.kept.settings().hash;
-        let label = self.label();
-        let sound = verdict(
-            action.need,
-            action.algos,
-            label,
-            EvmStatus::Pass,
-            digest,
-            default,
-            self.size(),
-            self.is_new(),
-        );
-        mend_for(found, sound, self.status(), read_label(label, default))
-    }
-
-    // Whether the mode is fix and changes the attributes.
-    fn mends(&self, action: &Action, digest: &Digest, verdict: Option<Verdict>) -> bool
-        ensures { result ≡ mends self.now.inode action.now digest.now verdict
-            (newest_first self.now.list) }
-    {
-        match verdict {
-            None => false,
-            Some(found) => {
-                matches!(self.kept.settings().mode, Mode::Fix)
-                    && is_mend(self.mend_of(action, digest, found))
-            }
-        }
-    }
-
     // The label, if it is a signature; otherwise no bytes.
     fn signature(&self) -> &[u8]
         ensures is { result.now ≡ signature_in (label self.now.inode (newest_first self.now.list)) }
@@ -187,21 +110,57 @@ impl InodeCell {
         ensures err { OnErr result (Stays self.old self.new pass.old pass.new) }
         ensures err_book { OnErr result (book.new.list ≡ book.old.list) }
     {
-        let verdict = self.verdict_for(asked, &sums.digest);
-        let mends = self.mends(&asked.action, &sums.digest, verdict);
+        let grant = self.answer(asked, &sums.digest);
         let entry = self.measured(&asked.action, sums)?;
-        let admitted = admits(self.kept.settings().mode, verdict);
+        self.reserve_with(book)?;
+        self.enter_grant(
+            pass,
+            who,
+            deed,
+            &asked.action,
+            &sums.digest,
+            grant,
+            entry,
+            facts,
+            book,
+        )
+    }
+
+    // Enters a grant in room that was reserved: mends the attributes and lists the entry, each only
+    // if there is one.
+    fn enter_grant(
+        &mut self,
+        pass: &mut Pass<Event>,
+        who: Who,
+        deed: Deed,
+        action: &Action,
+        digest: &Digest,
+        grant: Grant,
+        entry: Option<Entry>,
+        facts: &Facts,
+        book: &mut Book,
+    ) -> Result<Grant, OutOfMemory>
+        requires name { pass.old.name ≡ self.old.journal }
+        requires number { pass.old.number ≡ caller_in who.task deed }
+        requires book_name { self.old.book ≡ book.old.name }
+        requires room { 1 ≤ self.old.spare }
+        requires book_room { 1 ≤ book.old.spare }
+        requires may { MayBy self.old pass.old.number deed }
+        requires enters { IsEntering self.old.inode (newest_first self.old.list) who deed
+            action.now digest.now grant entry facts.now }
+        ensures acts { IfOk result (λ g. Acts self.old self.new book.old.list book.new.list
+            pass.old pass.new who deed (Some (Told.Grant g))) }
+        ensures book { (book.new.name ≡ book.old.name) × (book.new.callers ≡ book.old.callers) }
+        ensures err { OnErr result (Stays self.old self.new pass.old pass.new) }
+        ensures err_book { OnErr result (book.new.list ≡ book.old.list) }
+    {
         let meta = self.meta();
-        self.reserve()?;
-        book.reserve()?;
         let evm = &self.kept.settings().evm;
-        mend_on(evm, &mut self.attrs, &meta, mends, &sums.digest)?;
+        mend_on(evm, &mut self.attrs, &meta, grant.labelled, digest)?;
         let placed = list_asked(book, &mut self.book, entry);
         let grant = Grant {
-            placed: placed_if_measured(&asked.action, placed),
-            verdict,
-            admitted,
-            labelled: mends,
+            placed: placed_if_measured(action, placed),
+            ..grant
         };
         let told = Told::Grant(grant);
         self.kept.enter(pass, Event { who, deed, told }, facts);

@@ -8,6 +8,7 @@ mod counting;
 mod ending;
 mod facts;
 mod granting;
+mod judging;
 mod listing;
 mod rewriting;
 mod setting;

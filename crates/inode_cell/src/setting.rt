@@ -1,5 +1,5 @@
 // Changes of attributes and metadata.
-ghost use Rattle.std.specs.Prelude.{◌≡◌, ◌+◌, false, is_some, List, Some, IfOk, OnErr};
+ghost use Rattle.std.specs.Prelude.{◌≡◌, ◌≤◌, ◌+◌, false, is_some, List, Some, IfOk, OnErr};
 ghost use Rattle.std.specs.Option.{option_copied};
 ghost use Rattle.ima_templates.specs.declared.entry.Entry.{Entry as AnyEntry};
 ghost use Rattle.inode_events.specs.Integrity.{collecting};
@@ -116,12 +116,13 @@ impl InodeCell {
             self.block(pass);
             return Ok(Set::Blocked);
         }
+        self.reserve()?;
         let name = BoxedBytes::from_slice(self.alloc, name)?;
         let value = copied(self.alloc, value)?;
         self.set_free(pass, who, name, value, cred.admin)
     }
 
-    // Sets or removes an attribute while no collection is open.
+    // Sets or removes an attribute in room that was reserved, while no collection is open.
     fn set_free(
         &mut self,
         pass: &mut Pass<Event>,
@@ -132,13 +133,13 @@ impl InodeCell {
     ) -> Result<Set, OutOfMemory>
         requires name { pass.old.name ≡ self.old.journal }
         requires number { pass.old.number ≡ who.task + 1 }
+        requires room { 1 ≤ self.old.spare }
         requires free { is_some (collecting self.old.inode (newest_first self.old.list)) ≡ false }
         ensures acts { IfOk result (λ s. (list : List AnyEntry)
             → Acts self.old self.new list list pass.old pass.new who (Deed.SetAttr name value
             admin) (set_told s)) }
         ensures err { OnErr result (Stays self.old self.new pass.old pass.new) }
     {
-        self.reserve()?;
         match self.attr_answer(name.as_slice(), value.get(), admin) {
             Set::Done => {
                 let deed = Deed::SetAttr { name, value, admin };

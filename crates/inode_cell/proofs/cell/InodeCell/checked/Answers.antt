@@ -33,7 +33,7 @@ enter-requires-clause-told c =
     let action : Action = action_value c.action.inside in
     let d : Deed = deed.Check file c.args.func action c.args.rules in
     let st = c.state-state.ensures.kept in
-    let l = c.reserve-2.new.self.list in
+    let l = c.reserve_with.new.book.list in
     let e = c.in_ok-entry.entry in
     let t : Told = c.found_told-told.result in
     let s = c.state-state.result.now in
@@ -57,8 +57,8 @@ enter-requires-clause-told c =
     s.counts.readers s.counts.writers s.marks.must_measure =
     subst (λ (v : CellValue). Reads (newest_first v.list) file c.counts_as-writing.result
     s.counts.readers s.counts.writers s.marks.must_measure) c.self.view_is reads_inside in
-    let move = moved c.args.self.now c.reserve.new.self (value_of c.self-2.inside)
-    c.in_ok-reserve.ensures.list c.in_ok-reserve.ensures.same c.self-2.view_is in
+    let move = moved c.args.self.now c.reserve_with.new.self (value_of c.self-2.inside)
+    c.in_ok-reserve_with.ensures.list c.in_ok-reserve_with.ensures.same c.self-2.view_is in
     let reads : Reads p file c.counts_as-writing.result s.counts.readers s.counts.writers
     s.marks.must_measure =
     move (λ (i : Inode) (q : List Event). Reads q file c.counts_as-writing.result s.counts.readers
@@ -86,7 +86,7 @@ invariant_of-self c =
     let action : Action = action_value c.action.inside in
     let d : Deed = deed.Check file c.args.func action c.args.rules in
     let st = c.state-state.ensures.kept in
-    let l = c.reserve-2.new.self.list in
+    let l = c.reserve_with.new.book.list in
     let e = c.in_ok-entry.entry in
     let t : Told = c.found_told-told.result in
     let s = c.state-state.result.now in
@@ -110,8 +110,8 @@ invariant_of-self c =
     s.counts.readers s.counts.writers s.marks.must_measure =
     subst (λ (v : CellValue). Reads (newest_first v.list) file c.counts_as-writing.result
     s.counts.readers s.counts.writers s.marks.must_measure) c.self.view_is reads_inside in
-    let move = moved c.args.self.now c.reserve.new.self (value_of c.self-2.inside)
-    c.in_ok-reserve.ensures.list c.in_ok-reserve.ensures.same c.self-2.view_is in
+    let move = moved c.args.self.now c.reserve_with.new.self (value_of c.self-2.inside)
+    c.in_ok-reserve_with.ensures.list c.in_ok-reserve_with.ensures.same c.self-2.view_is in
     let reads : Reads p file c.counts_as-writing.result s.counts.readers s.counts.writers
     s.marks.must_measure =
     move (λ (i : Inode) (q : List Event). Reads q file c.counts_as-writing.result s.counts.readers
@@ -148,7 +148,7 @@ returns-clause-acts c =
     let action : Action = action_value c.action.inside in
     let d : Deed = deed.Check file c.args.func action c.args.rules in
     let st = c.state-state.ensures.kept in
-    let l = c.reserve-2.new.self.list in
+    let l = c.reserve_with.new.book.list in
     let e = c.in_ok-entry.entry in
     let t : Told = c.found_told-told.result in
     let s = c.state-state.result.now in
@@ -172,8 +172,8 @@ returns-clause-acts c =
     s.counts.readers s.counts.writers s.marks.must_measure =
     subst (λ (v : CellValue). Reads (newest_first v.list) file c.counts_as-writing.result
     s.counts.readers s.counts.writers s.marks.must_measure) c.self.view_is reads_inside in
-    let move = moved c.args.self.now c.reserve.new.self (value_of c.self-2.inside)
-    c.in_ok-reserve.ensures.list c.in_ok-reserve.ensures.same c.self-2.view_is in
+    let move = moved c.args.self.now c.reserve_with.new.self (value_of c.self-2.inside)
+    c.in_ok-reserve_with.ensures.list c.in_ok-reserve_with.ensures.same c.self-2.view_is in
     let reads : Reads p file c.counts_as-writing.result s.counts.readers s.counts.writers
     s.marks.must_measure =
     move (λ (i : Inode) (q : List Event). Reads q file c.counts_as-writing.result s.counts.readers
@@ -202,7 +202,7 @@ returns-clause-acts c =
           c.self-2.inside.attrs;
       alloc = c.self-2.inside.alloc;
     }) in
-    let same_list : l ≡ book = c.reserve-2.ensures.list.list in
+    let same_list : l ≡ book = c.in_ok-reserve_with.ensures.book.list in
     let inner : Acts mid new book c.list_asked-placed.new.book.list c.args.pass.now
     c.enter.new.pass c.args.who d (Some t) = record {
       told = sym (subst (λ (x : List Entry). outcome i0 x d p ≡ Some t) same_list told_is);
@@ -224,9 +224,9 @@ returns-clause-acts c =
       };
     } in
     let mid_list : mid.list ≡ old.list = ap (λ (v : CellValue). v.list) c.self-2.view_is
-    ∙ c.in_ok-reserve.ensures.list in
+    ∙ c.in_ok-reserve_with.ensures.list in
     let mid_same : IsSameCell old mid = subst (λ (v : CellValue). IsSameCell old v) (sym
-    c.self-2.view_is) c.in_ok-reserve.ensures.same in
+    c.self-2.view_is) c.in_ok-reserve_with.ensures.same in
     let outer = acts_from old mid new book c.list_asked-placed.new.book.list c.args.pass.now
     c.enter.new.pass c.args.who d (Some t) mid_list mid_same inner in
     subst (λ (a : Action). Acts old new book c.list_asked-placed.new.book.list c.args.pass.now

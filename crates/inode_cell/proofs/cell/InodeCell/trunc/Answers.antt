@@ -1,31 +1,72 @@
-use Rattle.std.proofs.Common.{[], Some, ℕ, List, refl, ap, subst, ◌∙◌}
+use Rattle.std.proofs.Common.{◌≡◌, [], Some, ℕ, List, refl, sym, ap, ◌∙◌}
+use Rattle.inode_events.specs.Says.{write_told}
+use Rattle.inode_events.specs.State.{content_after}
+use Rattle.inode_events.specs.declared.deed.Deed.{Deed}
 use Rattle.inode_events.specs.declared.deed.Deed.TheVariants as deed
-use Rattle.inode_events.specs.declared.told.Told.TheVariants as told
-use Rattle.inode_cell.proofs.Acting.{acts_from}
-use Rattle.inode_cell.proofs.Steps.{holds_on, not_err, written_told}
 use Rattle.inode_pages.specs.Content.{resized}
-use Rattle.inode_cell.specs.Acts.{Acts}
+use Rattle.inode_answers.specs.Answers.{wrote_told}
+use Rattle.inode_cell.specs.Fields.{value_of}
 use Rattle.inode_cell.specs.Value.{CellValue}
+use Rattle.inode_cell.proofs.Acting.{acts_inside}
+use Rattle.inode_cell.proofs.Steps.{holds_on}
+use Rattle.inode_cell.proofs.WritingLemmas.{unchanged, wrote_content, wrote_says}
 use Rattle.inode_cell.proofs.cell.InodeCell.trunc.Goals as goal
 
-pub returns-in-Err-TooBig-clause-acts : goal.returns-in-Err-TooBig-clause-acts
-returns-in-Err-TooBig-clause-acts c = λ list.
-    acts_from c.args.self.now c.reserve.new.self c.step.new.self list list c.args.pass.now
-    c.step.new.pass c.args.who (deed.Trunc c.args.file c.args.len) (Some told.TooBig)
-    c.in_ok-reserve.ensures.list c.in_ok-reserve.ensures.same
-    (subst (λ (v : CellValue). Acts v c.step.new.self list list c.args.pass.now c.step.new.pass
-    c.args.who (deed.Trunc c.args.file c.args.len) (Some told.TooBig)) c.self.view_is
-    (c.step.ensures list))
+pub enter-requires-clause-told : goal.enter-requires-clause-told
+enter-requires-clause-told c = wrote_says c.resize.result c.in_ok-wrote.wrote c.args.len
+    c.in_ok-wrote.ensures.ok c.resize.ensures.too_big
+    ∙ ap Some (sym c.wrote_told-told.ensures)
 
+-- the invariant holds if memory ran out, since nothing changed
 pub invariant_of-self : goal.invariant_of-self
-invariant_of-self c =
+invariant_of-self c = rw (unchanged c.resize.result c.self.inside.content c.resize.new.self
+    c.in_err-wrote.ensures.err c.resize.ensures.err) c.self.invariant
+
+pub invariant_of-self-2 : goal.invariant_of-self-2
+invariant_of-self-2 c =
     let k = c.self.inside.kept in
     let h = c.self.invariant in
     let b = c.self.inside.book in
+    let old : List ℕ = c.self.inside.content in
+    let d : Deed = deed.Trunc c.args.file c.args.len in
+    let told_is : Some (write_told c.args.len) ≡ Some c.wrote_told-told.result = wrote_says
+    c.resize.result c.in_ok-wrote.wrote c.args.len c.in_ok-wrote.ensures.ok c.resize.ensures.too_big
+    ∙ ap Some (sym c.wrote_told-told.ensures) in
     rw c.enter.ensures.inode
-    (holds_on k.inode k.list c.enter.new.self.list c.args.who (deed.Trunc c.args.file c.args.len)
-    told.Done c.self.inside.content c.resize.new.self c.self.inside.attrs c.self.inside.attrs
-    [] b.seen b.seen b.mine b.mine
-    h c.enter.ensures.list (c.in-Ok.ensures.ok
-    ∙ ap (λ (x : List ℕ). resized x c.args.len) h.content) h.attributes (refl, refl)
-    (written_told c.args.len (λ h. not_err c.in-Ok.field-0 (c.in-Ok.ensures.too_big.1 h))))
+    (holds_on k.inode k.list c.enter.new.self.list c.args.who d c.wrote_told-told.result old
+    c.resize.new.self c.self.inside.attrs c.self.inside.attrs [] b.seen b.seen b.mine b.mine
+    h c.enter.ensures.list
+    (wrote_content c.resize.result c.in_ok-wrote.wrote d old c.resize.new.self (resized old c.args.len)
+    c.in_ok-wrote.ensures.ok c.resize.ensures.ok c.resize.ensures.err refl refl
+    ∙ (λ j. content_after d (sym c.wrote_told-told.ensures j) (h.content j)))
+    h.attributes (refl, refl) told_is)
+
+pub returns-clause-acts : goal.returns-clause-acts
+returns-clause-acts c = λ list.
+    let x = c.self.inside in
+    let room = c.in_ok-reserve.ensures in
+    let entered = c.enter.ensures in
+    let d : Deed = deed.Trunc c.args.file c.args.len in
+    let said : Some c.wrote_told-told.result ≡ Some (write_told c.args.len) = sym (wrote_says
+    c.resize.result c.in_ok-wrote.wrote c.args.len c.in_ok-wrote.ensures.ok c.resize.ensures.too_big
+    ∙ ap Some (sym c.wrote_told-told.ensures)) in
+    let new : CellValue = value_of (record x { kept = c.enter.new.self; content = c.resize.new.self }) in
+    acts_inside c.args.self.now c.reserve.new.self (value_of x) new list list c.args.pass.now
+    c.enter.new.pass c.args.who d c.wrote_told-told.result (wrote_told c.in_ok-wrote.wrote)
+    room.list room.same c.self.view_is c.wrote_told-told.ensures
+    (record {
+      told = said;
+      journal = entered.list;
+      book = refl;
+      seen = entered.seen;
+      mine = entered.mine;
+      pass_name = entered.pass.0;
+      pass_number = entered.pass.1;
+      same = record {
+        inode = entered.inode;
+        journal = entered.same.0;
+        callers = entered.same.1;
+        book = refl;
+        booked = refl;
+      };
+    })
