@@ -54,6 +54,10 @@ within least most bytes = if nat_le least (length bytes) && nat_le (length bytes
 abbrev pub value_of : ℕ → ℕ → List ℕ → Option (List ℕ)
 value_of least most text = any_value most text >>= within least most
 
+-- a value after `hex:` of at most this many bytes
+abbrev pub hex_within : ℕ → List ℕ → Option (List ℕ)
+hex_within most digits = hex_value digits >>= within 0 most
+
 -- a value after `txt:` of at most this many bytes
 abbrev pub text_within : ℕ → List ℕ → Option (List ℕ)
 text_within most bytes = text_value bytes >>= within 0 most

@@ -4,7 +4,7 @@ ghost use Rattle.text_forms.specs.Words.{is_visible};
 ghost use Rattle.script_words.specs.declared.fault.LineCause.TheVariants as cause;
 ghost use Rattle.script_words.specs.Gives.{VecGives, LineGives};
 ghost use Rattle.inode_pages.specs.Content.{most_bytes};
-ghost use Rattle.script_words.specs.Value.{any_value, byte_of, end_byte, fill_of, fill_value, fill_within, hex_value, text_value, text_within, value_of, within};
+ghost use Rattle.script_words.specs.Value.{any_value, byte_of, end_byte, fill_of, fill_value, fill_within, hex_value, hex_within, text_value, text_within, value_of, within};
 
 use crate::fault::{LineCause, LineErr};
 use hex::{FromHexError, decode};
@@ -35,8 +35,7 @@ pub fn content_of(alloc: Global, text: &[u8]) -> Result<Content, LineErr>
     ensures { LineGives result (ok_or (value_of 0 most_bytes text.now) cause.BadField) }
 {
     if let Some(digits) = text.strip_prefix(b"hex:") {
-        let bytes = hex_value(alloc, digits)?;
-        return paged(alloc, bytes.as_slice());
+        return hex_content(alloc, digits);
     }
     if let Some(bytes) = text.strip_prefix(b"txt:") {
         return text_content(alloc, bytes);
@@ -56,6 +55,13 @@ fn paged(alloc: Global, bytes: &[u8]) -> Result<Content, LineErr>
         Err(PageErr::TooBig) => Err(LineErr::Refused(LineCause::BadField)),
         Err(PageErr::OutOfMemory) => Err(LineErr::OutOfMemory),
     }
+}
+
+fn hex_content(alloc: Global, digits: &[u8]) -> Result<Content, LineErr>
+    ensures { LineGives result (ok_or (hex_within most_bytes digits.now) cause.BadField) }
+{
+    let bytes = hex_value(alloc, digits)?;
+    paged(alloc, bytes.as_slice())
 }
 
 fn text_content(alloc: Global, bytes: &[u8]) -> Result<Content, LineErr>
