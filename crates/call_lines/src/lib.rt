@@ -9,6 +9,7 @@ mod arguments;
 mod calls;
 mod canonical;
 mod form;
+mod named;
 mod paths;
 mod pushed;
 mod table;

@@ -1,8 +1,9 @@
 //! Appending words and numbers to a text.
 
-ghost use Rattle.std.specs.Prelude.{◌≡◌, ◌∷◌, ◌++◌, decimal, OnOk};
+ghost use Rattle.std.specs.Prelude.{◌≡◌, [], ◌∷◌, ◌++◌, decimal, OnOk};
 ghost use Rattle.hex.specs.Hex.{encode_lower};
 ghost use Rattle.call_lines.specs.Form.{hex_text, octal};
+ghost use Rattle.call_lines.specs.Lines.{words_text};
 
 use std::alloc::AllocError as OutOfMemory;
 use std::io::Write;
@@ -16,6 +17,15 @@ pub fn push_number(out: &mut Vec<u8>, key: &[u8], n: u64) -> Result<(), OutOfMem
         Ok(()) => Ok(()),
         Err(_) => Err(OutOfMemory),
     }
+}
+
+// Appends a word, a space and a small number.
+pub(crate) fn push_one(out: &mut Vec<u8>, head: &[u8], number: u8) -> Result<(), OutOfMemory>
+    ensures { OnOk result (
+        out.new.items ≡ out.old.items ++ words_text (head.now ∷ decimal number ∷ [])) }
+{
+    out.extend_from_slice(head)?;
+    push_number(out, b" ", u64::from(number))
 }
 
 /// Appends a key and a mode in octal digits.
