@@ -8,7 +8,7 @@ ghost use Rattle.script_words.specs.Gives.{LineGives};
 ghost use Rattle.script_fields.specs.FileFields.{content_of, file_in, front_in, front_of, numeral_of, path_of};
 ghost use Rattle.script_fields.specs.FrontView.{front_view};
 
-use crate::words::{id_after, is_filled};
+use crate::words::id_after;
 use inode_pages::Content;
 use script_words::{LineCause, LineErr, content_of, ino_of, mode_of};
 use std::alloc::Global;
@@ -30,12 +30,9 @@ pub struct Front<'a> {
 pub fn front_in<'a>(fields: &[&'a [u8]]) -> Option<Front<'a>>
     ensures { option_map front_view result ≡ front_in (map (λ w. w.now) fields.now) }
 {
-    let [path, fs, ino, generation, uid, gid, mode, more @ ..] = fields else {
+    let [path, fs, ino, generation, uid, gid, mode] = fields else {
         return None;
     };
-    if is_filled(more) {
-        return None;
-    }
     front_of(path, fs, ino, generation, uid, gid, mode)
 }
 
@@ -44,23 +41,9 @@ pub fn file_in<'a>(fields: &[&'a [u8]]) -> Option<(Front<'a>, &'a [u8])>
     ensures { option_map (λ f. (front_view f.0, f.1.now)) result
         ≡ file_in (map (λ w. w.now) fields.now) }
 {
-    let [
-        path,
-        fs,
-        ino,
-        generation,
-        uid,
-        gid,
-        mode,
-        content,
-        more @ ..,
-    ] = fields
-    else {
+    let [path, fs, ino, generation, uid, gid, mode, content] = fields else {
         return None;
     };
-    if is_filled(more) {
-        return None;
-    }
     let front = front_of(path, fs, ino, generation, uid, gid, mode)?;
     Some((front, content))
 }

@@ -8,7 +8,6 @@ ghost use Rattle.script_words.specs.Forms.{after_key_by};
 ghost use Rattle.script_words.specs.Gives.{LineGives};
 ghost use Rattle.script_fields.specs.SuperFields.{name_of, super_in, super_of, versions_of};
 
-use crate::words::is_filled;
 use policy_rules::Super;
 use script_words::{LineCause, LineErr};
 use std::alloc::Global;
@@ -20,12 +19,9 @@ use xattr_store::Bytes;
 pub fn super_in(alloc: Global, fields: &[&[u8]]) -> Result<Super, LineErr>
     ensures { LineGives result (ok_or (super_in (map (λ w. w.now) fields.now)) cause.BadField) }
 {
-    let [magic, uuid, name, versions, more @ ..] = fields else {
+    let [magic, uuid, name, versions] = fields else {
         return Err(LineErr::Refused(LineCause::BadField));
     };
-    if is_filled(more) {
-        return Err(LineErr::Refused(LineCause::BadField));
-    }
     super_of(alloc, magic, uuid, name, versions)
 }
 
