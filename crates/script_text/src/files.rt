@@ -63,8 +63,12 @@ impl Draft {
         ensures { LineMakes result (with_front (front_view front.now) present content self.old)
             self.new }
     {
-        let fs = place_among(self.supers.len(), front.fs).ok_or(LineCause::Unknown)?;
-        let place = self.supers.get(fs).ok_or(LineCause::Unknown)?;
+        let Some(fs) = place_among(self.supers.len(), front.fs) else {
+            return Err(LineErr::Refused(LineCause::Unknown));
+        };
+        let Some(place) = self.supers.get(fs) else {
+            return Err(LineErr::Refused(LineCause::Unknown));
+        };
         let block = block_of(alloc, front, fs as u32, place, present, content)?;
         self.with_block(alloc, block)
     }
