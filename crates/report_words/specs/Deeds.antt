@@ -164,6 +164,20 @@ word_of text =
     ∷ (codes "close-take", word.CloseTake) ∷ (codes "close-chunk", word.CloseChunk)
     ∷ (codes "close-finish", word.CloseFinish) ∷ []) text
 
+-- the deed of a word after which stands its file alone
+abbrev pub file_deed : DeedWord → ℕ → Option Deed
+file_deed word.Take file = Some (deed.Take file)
+file_deed word.Chunk file = Some (deed.Chunk file)
+file_deed word.Finish file = Some (deed.Finish file)
+file_deed word.Close file = Some (deed.Close file)
+file_deed word.CloseTake file = Some (deed.CloseTake file)
+file_deed word.CloseChunk file = Some (deed.CloseChunk file)
+file_deed word.CloseFinish file = Some (deed.CloseFinish file)
+file_deed _ file = None
+
+abbrev pub file_deed_in : DeedWord → Words → Option (Deed × Words)
+file_deed_in word ws = number_in ws >>= λ f. file_deed word f.0 >>= λ d. Some (d, f.1)
+
 -- the deed whose first word is this, by the words after it
 unfoldable pub deed_by : DeedWord → Words → Option (Deed × Words)
 deed_by word.Count ws = count_in ws

@@ -84,40 +84,38 @@ fn deed_by<'w>(word: DeedWord, words: &'w [&'w [u8]]) -> Option<(Deed, &'w [&'w 
     match word {
         DeedWord::Count => count_in(words),
         DeedWord::Check => check_in(words),
-        DeedWord::Take => {
-            let (file, rest) = number_in(words)?;
-            Some((Deed::Take(file), rest))
-        }
-        DeedWord::Chunk => {
-            let (file, rest) = number_in(words)?;
-            Some((Deed::Chunk(file), rest))
-        }
-        DeedWord::Finish => {
-            let (file, rest) = number_in(words)?;
-            Some((Deed::Finish(file), rest))
-        }
         DeedWord::Read => read_in(words),
         DeedWord::Write => write_in(words),
         DeedWord::Trunc => trunc_in(words),
         DeedWord::SetAttr => set_attr_in(words),
         DeedWord::SetMeta => set_meta_in(words),
-        DeedWord::Close => {
-            let (file, rest) = number_in(words)?;
-            Some((Deed::Close(file), rest))
-        }
-        DeedWord::CloseTake => {
-            let (file, rest) = number_in(words)?;
-            Some((Deed::CloseTake(file), rest))
-        }
-        DeedWord::CloseChunk => {
-            let (file, rest) = number_in(words)?;
-            Some((Deed::CloseChunk(file), rest))
-        }
-        DeedWord::CloseFinish => {
-            let (file, rest) = number_in(words)?;
-            Some((Deed::CloseFinish(file), rest))
-        }
+        _ => file_deed_in(word, words),
     }
+}
+
+// The deed of a word after which stands its file alone.
+fn file_deed(word: DeedWord, file: u32) -> Option<Deed>
+    ensures { result ≡ spec.file_deed word file }
+{
+    match word {
+        DeedWord::Take => Some(Deed::Take(file)),
+        DeedWord::Chunk => Some(Deed::Chunk(file)),
+        DeedWord::Finish => Some(Deed::Finish(file)),
+        DeedWord::Close => Some(Deed::Close(file)),
+        DeedWord::CloseTake => Some(Deed::CloseTake(file)),
+        DeedWord::CloseChunk => Some(Deed::CloseChunk(file)),
+        DeedWord::CloseFinish => Some(Deed::CloseFinish(file)),
+        _ => None,
+    }
+}
+
+fn file_deed_in<'w>(word: DeedWord, words: &'w [&'w [u8]]) -> Option<(Deed, &'w [&'w [u8]])>
+    ensures { option_map (λ p. (p.0, map (λ w. w.now) p.1.now)) result
+        ≡ spec.file_deed_in word (map (λ w. w.now) words.now) }
+{
+    let (file, rest) = number_in(words)?;
+    let deed = file_deed(word, file)?;
+    Some((deed, rest))
 }
 
 fn kind_of(word: &[u8]) -> Option<Kind>
