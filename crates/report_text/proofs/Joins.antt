@@ -1,10 +1,12 @@
 -- Words joined by spaces, and lines appended one after another.
-use Rattle.std.proofs.Common.{◌≡◌, ◌≢◌, ℕ, suc, ◌+◌, ◌<◌, ◌≤◌, Bool, true, List, [], ◌∷◌, ◌++◌, take, drop, map, get_or, length, codes, Option, Some, None, refl, sym, ap, ◌∙◌, append_assoc, drop-cons, arith}
+use Rattle.std.proofs.Common.{◌≡◌, ◌≢◌, ℕ, suc, ◌+◌, ◌<◌, ◌≤◌, Bool, true, List, [], ◌∷◌, ◌++◌, take, drop, map, get_or, length, codes, Option, Some, None, Result, Ok, Err, cond, refl, sym, ap, ◌∙◌, append_assoc, drop-cons, arith}
 use Rattle.report_text.specs.Numerals.{numeral}
-use Rattle.std.specs.List.{join_with_byte}
+use Rattle.std.specs.List.{flat_map, join_with_byte}
+use Rattle.std.specs.Result.{OnOk, is_ok}
 use Rattle.std.proofs.lemmas.Bool.{false≢true}
 use Rattle.std.proofs.lemmas.List.{append-nil, drop_all, map_push, take_more}
 use Rattle.std.proofs.lemmas.Grind.{flat_map-append}
+use Rattle.std.proofs.lemmas.Result.{on_ok_weaker}
 use Rattle.inode_meta.specs.declared.measurement.Template.{Template}
 use Rattle.inode_meta.specs.declared.step.Who.{Who}
 use Rattle.ima_templates.specs.declared.entry.Placed.{Placed}
@@ -196,3 +198,28 @@ lines_end lines none o out xs i le h =
     sym (append-nil out)
     ∙ ap (λ (ls : List Line). out ++ text_of ls) (sym (ap (lines i) (drop_all i xs le) ∙ none i))
     ∙ h
+
+-- the texts of the elements so far, and of one more
+pub texts_on : {X : Type 0} (f : X → List ℕ) (o out new : List ℕ) (xs : List X) (i : ℕ) (x : X)
+    → i < length xs → x ≡ get_or xs i x → out ≡ o ++ flat_map f (take i xs) → new ≡ out ++ f x
+    → new ≡ o ++ flat_map f (take (i + 1) xs)
+texts_on f o out new xs i x lt is h k =
+    let so_far = flat_map f (take i xs) in
+    let more : flat_map f (take (i + 1) xs) ≡ flat_map f (take i xs) ++ f (get_or xs i x) =
+    ap (flat_map f) (take_more xs i x lt)
+    ∙ flat_map-append f (take i xs) (get_or xs i x ∷ [])
+    ∙ ap (λ l. flat_map f (take i xs) ++ l) (append-nil (f (get_or xs i x))) in
+    k ∙ ap (λ l. l ++ f x) h ∙ append_assoc o so_far (f x)
+    ∙ ap (λ l. o ++ l) (ap (λ y. so_far ++ f y) is ∙ sym more)
+
+-- ---- the last piece
+
+-- what it makes, if it was appended
+pub last_pushed : {E Q : Type 0} (r : Result (Unit {0}) E) (old more new : List ℕ)
+    → new ≡ cond (is_ok r) (old ++ more) old → (new ≡ old ++ more → Q) → OnOk r Q
+last_pushed (Ok v) old more new e f = f e
+last_pushed (Err x) old more new e f = tt
+
+-- the same of a piece that a function appends
+pub when_ok : {T E P Q : Type 0} (r : Result T E) → OnOk r P → (P → Q) → OnOk r Q
+when_ok r h f = on_ok_weaker r f h

@@ -1,5 +1,5 @@
 -- Equal reports determine the same run, up to what the lines don't print.
-use Rattle.std.proofs.Common.{inl, inr, ◌≡◌, ℕ, zero, suc, ◌+◌, ◌<◌, ◌≤◌, ◌/◌, ◌%◌, not, ◌==◌, Bool, true, false, nat_lt, List, [], ◌∷◌, ◌++◌, length, map, codes, if◌then◌else◌, refl, sym, ap, ◌∙◌, append_assoc, arith, Option, Some, None}
+use Rattle.std.proofs.Common.{inl, inr, ◌≡◌, ℕ, zero, suc, ◌+◌, ◌/◌, ◌%◌, not, ◌==◌, Bool, true, false, nat_lt, List, [], ◌∷◌, ◌++◌, length, map, codes, if◌then◌else◌, refl, sym, ap, ◌∙◌, append_assoc, arith, Option, Some, None}
 use Rattle.report_text.specs.Numerals.{numeral}
 use Rattle.std.specs.List.{AllByRecursion, list_all, list_any, count_by}
 use Rattle.std.specs.Str.{bytes_eq}

@@ -33,8 +33,7 @@ pub fn push_acts(out: &mut Vec<u8>, default: Template, action: &Action) -> Resul
     push_measure(out, a.measure, a.pcr, a.template.unwrap_or(default))?;
     push_appraise(out, a.appraise, a.need)?;
     push_flag(out, b" audit", a.audit)?;
-    push_flag(out, b" hash", a.hash)?;
-    Ok(())
+    push_flag(out, b" hash", a.hash)
 }
 
 fn push_measure(

@@ -7,7 +7,7 @@ ghost use Rattle.report_text.specs.Texts.{acts_text, rules_text};
 ghost use Rattle.report_text.specs.Words.{change_words, deed_words, how_words, length_word};
 
 use crate::acts::{push_acts, push_rules};
-use crate::push::{push_number, push_numbers};
+use crate::push::{push_number, push_numbered, push_numbers, push_pair};
 use inode_events::{Change, Deed, How};
 use inode_meta::Template;
 use policy_text::{Action, Func};
@@ -35,9 +35,9 @@ pub fn push_deed(
             action,
             rules,
         } => push_check(out, default, grows, *file, *func, action, *rules),
-        Deed::Take { file } => push_numbers(out, b"take", &[*file]),
-        Deed::Chunk { file } => push_numbers(out, b"chunk", &[*file]),
-        Deed::Finish { file } => push_numbers(out, b"finish", &[*file]),
+        Deed::Take { file } => push_numbered(out, b"take", *file),
+        Deed::Chunk { file } => push_numbered(out, b"chunk", *file),
+        Deed::Finish { file } => push_numbered(out, b"finish", *file),
         Deed::Read { file, from, len } => push_numbers(out, b"read", &[*file, *from, *len]),
         Deed::Write { file, from, bytes } => {
             push_numbers(
@@ -49,12 +49,12 @@ pub fn push_deed(
         Deed::Trunc { file, len } => push_numbers(out, b"trunc", &[*file, *len]),
         Deed::SetAttr { name, value, .. } => push_set_attr(out, name.as_slice(), value.get()),
         Deed::SetMeta { change } => push_change(out, *change),
-        Deed::Close { file } => push_numbers(out, b"close", &[*file]),
-        Deed::CloseTake { file } => push_numbers(out, b"close-take", &[*file]),
-        Deed::CloseChunk { file } => push_numbers(out, b"close-chunk", &[*file]),
-        Deed::CloseFinish { file } => push_numbers(out, b"close-finish", &[*file]),
-        Deed::Post(sem) => push_numbers(out, b"post", &[u64::from(*sem)]),
-        Deed::Wait(sem) => push_numbers(out, b"wait", &[u64::from(*sem)]),
+        Deed::Close { file } => push_numbered(out, b"close", *file),
+        Deed::CloseTake { file } => push_numbered(out, b"close-take", *file),
+        Deed::CloseChunk { file } => push_numbered(out, b"close-chunk", *file),
+        Deed::CloseFinish { file } => push_numbered(out, b"close-finish", *file),
+        Deed::Post(sem) => push_numbered(out, b"post", u64::from(*sem)),
+        Deed::Wait(sem) => push_numbered(out, b"wait", u64::from(*sem)),
     }
 }
 
@@ -78,20 +78,18 @@ fn push_check(
     ensures { OnOk result (out.new.items ≡ out.old.items ++ join_with_byte 32
         (deed_words default grows (Deed.Check file func action.now rules))) }
 {
-    push_numbers(out, b"check", &[file])?;
+    push_numbered(out, b"check", file)?;
     out.extend_from_slice(b" ")?;
     out.extend_from_slice(func.word().as_bytes())?;
     push_rules(out, grows, rules)?;
-    push_acts(out, default, action)?;
-    Ok(())
+    push_acts(out, default, action)
 }
 
 fn push_set_attr(out: &mut Vec<u8>, name: &[u8], value: &Option<Bytes>) -> Result<(), OutOfMemory>
     ensures { OnOk result (out.new.items ≡ out.old.items ++ join_with_byte 32
         (codes "set-attr" ∷ name.now ∷ length_word value.now ∷ [])) }
 {
-    out.extend_from_slice(b"set-attr ")?;
-    out.extend_from_slice(name)?;
+    push_pair(out, b"set-attr", name)?;
     out.extend_from_slice(b" ")?;
     push_length(out, value)
 }

@@ -48,8 +48,7 @@ fn push_event(
     push_deed(out, default, grows, &event.deed)?;
     out.extend_from_slice(b" = ")?;
     push_told(out, &event.told)?;
-    out.extend_from_slice(b"\n")?;
-    Ok(())
+    out.extend_from_slice(b"\n")
 }
 
 /// Prints a step as `TASK.CALL.STEP`.

@@ -8,7 +8,7 @@ ghost use Rattle.report_text.specs.Report.{all_inode_lines, attr_line, force_wor
 ghost use Rattle.report_text.specs.Texts.{line_text};
 
 use crate::events::push_events;
-use crate::push::{cut, push_numbers};
+use crate::push::{cut, push_numbered};
 use hash_algos::Digest;
 use ima_io::Pieces;
 use inode_events::EndedInode;
@@ -85,10 +85,9 @@ fn push_inode(
     push_head(out, number, inode)?;
     push_force(out, &inode.force)?;
     push_attrs(out, &inode.attrs)?;
-    push_numbers(out, b"events", &[journal.len() as u64])?;
+    push_numbered(out, b"events", journal.len() as u64)?;
     out.extend_from_slice(b"\n")?;
-    push_events(out, default, grows, journal)?;
-    Ok(())
+    push_events(out, default, grows, journal)
 }
 
 // Prints the head of an inode: its number, its path, and how many descriptors are still open on it.
@@ -96,14 +95,13 @@ fn push_head(out: &mut Vec<u8>, number: u64, inode: &EndedInode) -> Result<(), O
     ensures { OnOk result (out.new.items
         ≡ out.old.items ++ line_text (inode_head number inode.now)) }
 {
-    push_numbers(out, b"inode", &[number])?;
+    push_numbered(out, b"inode", number)?;
     out.extend_from_slice(b" ")?;
     out.extend_from_slice(inode.path.as_slice())?;
-    push_numbers(out, b" writers", &[inode.writers])?;
-    push_numbers(out, b" readers", &[inode.readers])?;
-    push_numbers(out, b" execs", &[inode.execs])?;
-    out.extend_from_slice(b"\n")?;
-    Ok(())
+    push_numbered(out, b" writers", inode.writers)?;
+    push_numbered(out, b" readers", inode.readers)?;
+    push_numbered(out, b" execs", inode.execs)?;
+    out.extend_from_slice(b"\n")
 }
 
 // Prints the digest in force as `ALGO:HEX`, or `none`.
@@ -116,8 +114,7 @@ fn push_force(out: &mut Vec<u8>, force: &Option<Digest>) -> Result<(), OutOfMemo
     };
     out.extend_from_slice(b"force")?;
     append_named_digest(digest, out)?;
-    out.extend_from_slice(b"\n")?;
-    Ok(())
+    out.extend_from_slice(b"\n")
 }
 
 fn push_attrs(out: &mut Vec<u8>, attrs: &Attrs) -> Result<(), OutOfMemory>
@@ -125,10 +122,9 @@ fn push_attrs(out: &mut Vec<u8>, attrs: &Attrs) -> Result<(), OutOfMemory>
         ++ line_text (codes "attrs" ∷ numeral (length attrs.now) ∷ [])
         ++ flat_map (λ p. line_text (attr_line p)) attrs.now) }
 {
-    push_numbers(out, b"attrs", &[attrs.as_slice().len() as u64])?;
+    push_numbered(out, b"attrs", attrs.as_slice().len() as u64)?;
     out.extend_from_slice(b"\n")?;
-    push_pairs(out, attrs.as_slice())?;
-    Ok(())
+    push_pairs(out, attrs.as_slice())
 }
 
 fn push_pairs(out: &mut Vec<u8>, pairs: &[(Bytes, Bytes)]) -> Result<(), OutOfMemory>
@@ -147,6 +143,5 @@ fn push_attr(out: &mut Vec<u8>, name: &[u8], value: &[u8]) -> Result<(), OutOfMe
 {
     out.extend_from_slice(name)?;
     append_hex(out, b' ', value)?;
-    out.extend_from_slice(b"\n")?;
-    Ok(())
+    out.extend_from_slice(b"\n")
 }

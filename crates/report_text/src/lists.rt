@@ -8,7 +8,7 @@ ghost use Rattle.report_text.specs.Report.{appended_lines, pcr_lines, pcr_lines_
 ghost use Rattle.report_text.specs.Texts.{line_text};
 
 use crate::events::push_who;
-use crate::push::push_numbers;
+use crate::push::push_numbered;
 use ima_templates::Entry;
 use inode_meta::Bank;
 use itoa::Buffer;
@@ -65,12 +65,11 @@ pub fn push_values(out: &mut Vec<u8>, banks: &Banks, pcr: u8) -> Result<(), OutO
         ≡ out.old.items ++ text_of (pcr_lines_at banks.now pcr true)) }
 {
     let number = u64::from(pcr);
-    push_numbers(out, b"pcr sha1", &[number])?;
+    push_numbered(out, b"pcr sha1", number)?;
     append_hex(out, b' ', banks.value(Bank::Sha1, pcr))?;
-    push_numbers(out, b"\npcr sha256", &[number])?;
+    push_numbered(out, b"\npcr sha256", number)?;
     append_hex(out, b' ', banks.value(Bank::Sha256, pcr))?;
-    out.extend_from_slice(b"\n")?;
-    Ok(())
+    out.extend_from_slice(b"\n")
 }
 
 // Prints the appended rules with their places, which follow those of the script's own rules.
@@ -87,10 +86,9 @@ pub fn push_appended(
     if !grows {
         return Ok(());
     }
-    push_numbers(out, b"appended", &[rules.len() as u64])?;
+    push_numbered(out, b"appended", rules.len() as u64)?;
     out.extend_from_slice(b"\n")?;
-    push_rules(alloc, out, base, rules)?;
-    Ok(())
+    push_rules(alloc, out, base, rules)
 }
 
 fn push_rules(
@@ -123,6 +121,5 @@ fn push_rule(
     push_who(out, entry.who)?;
     out.extend_from_slice(b" ")?;
     print_rule(alloc, &entry.rule, out)?;
-    out.extend_from_slice(b"\n")?;
-    Ok(())
+    out.extend_from_slice(b"\n")
 }

@@ -9,7 +9,7 @@ ghost use Rattle.report_text.specs.Report.{all_inode_lines, all_task_lines, appe
 
 use crate::inodes::{push_inodes, push_inodes_in_pieces};
 use crate::lists::{push_appended, push_entries, push_registers};
-use crate::push::push_numbers;
+use crate::push::push_numbered;
 use crate::tasks::{push_tasks, push_tasks_in_pieces};
 use ima_io::Pieces;
 use inode_events::EndedInode;
@@ -105,10 +105,9 @@ fn push_head(out: &mut Vec<u8>, e: &Ended) -> Result<(), OutOfMemory>
     let list = e.list.as_slice();
     out.extend_from_slice(b"imakern report 1\nrun ")?;
     out.extend_from_slice(ending_word(e).as_bytes())?;
-    push_numbers(out, b"\nlist", &[list.len() as u64])?;
-    push_numbers(out, b" violations", &[violations(list)])?;
-    out.extend_from_slice(b"\n")?;
-    Ok(())
+    push_numbered(out, b"\nlist", list.len() as u64)?;
+    push_numbered(out, b" violations", violations(list))?;
+    out.extend_from_slice(b"\n")
 }
 
 fn ending_word(e: &Ended) -> &'static str

@@ -54,6 +54,16 @@ pub fn push_pair(out: &mut Vec<u8>, first: &[u8], second: &[u8]) -> Result<(), O
 }
 
 // Prints the words, a space and the number.
+pub fn push_numbered(out: &mut Vec<u8>, words: &[u8], n: u64) -> Result<(), OutOfMemory>
+    ensures { OnOk result (out.new.items
+        ≡ out.old.items ++ join_with_byte 32 (words.now ∷ numeral n ∷ [])) }
+{
+    out.extend_from_slice(words)?;
+    out.extend_from_slice(b" ")?;
+    push_number(out, n)
+}
+
+// The same for a number of up to 128 bits.
 pub fn push_sum(out: &mut Vec<u8>, words: &[u8], n: u128) -> Result<(), OutOfMemory>
     ensures { OnOk result (out.new.items
         ≡ out.old.items ++ join_with_byte 32 (words.now ∷ numeral n ∷ [])) }

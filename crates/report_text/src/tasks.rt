@@ -7,7 +7,7 @@ ghost use Rattle.text_forms.specs.Words.{text_of};
 ghost use Rattle.report_text.specs.Report.{all_task_lines, reply_lines, reply_words, task_lines};
 ghost use Rattle.report_text.specs.Texts.{line_text};
 
-use crate::push::{cut, push_number, push_numbers, push_pair};
+use crate::push::{cut, push_number, push_numbered, push_pair};
 use call_steps::Reply;
 use hash_algos::Sha256Digest;
 use ima_io::Pieces;
@@ -48,14 +48,13 @@ fn push_task(out: &mut Vec<u8>, number: u64, task: &EndedTask) -> Result<(), Out
     ensures { OnOk result (out.new.items
         ≡ out.old.items ++ text_of (task_lines number task.now)) }
 {
-    push_numbers(out, b"task", &[number])?;
+    push_numbered(out, b"task", number)?;
     out.extend_from_slice(if task.done {
         b" done\n".as_slice()
     } else {
         b" unfinished\n"
     })?;
-    push_replies(out, task.replies.as_slice())?;
-    Ok(())
+    push_replies(out, task.replies.as_slice())
 }
 
 // Prints the replies of the answered calls, each with the number of its call.
@@ -76,8 +75,7 @@ fn push_answer(out: &mut Vec<u8>, call: u64, reply: &Reply) -> Result<(), OutOfM
     push_number(out, call)?;
     out.extend_from_slice(b" ")?;
     push_reply(out, reply)?;
-    out.extend_from_slice(b"\n")?;
-    Ok(())
+    out.extend_from_slice(b"\n")
 }
 
 /// Prints a reply: its word, and what belongs to it.
@@ -107,6 +105,6 @@ fn push_bytes(out: &mut Vec<u8>, n: u32, digest: &Sha256Digest) -> Result<(), Ou
     ensures { OnOk result (out.new.items
         ≡ out.old.items ++ join_with_byte 32 (reply_words (Reply.Bytes n digest.now))) }
 {
-    push_numbers(out, b"ok", &[u64::from(n)])?;
+    push_numbered(out, b"ok", u64::from(n))?;
     append_hex(out, b' ', digest.as_slice())
 }

@@ -6,7 +6,7 @@ ghost use Rattle.report_text.specs.Texts.{admitted_text, placed_text, verdict_te
 ghost use Rattle.report_text.specs.Words.{told_words};
 
 use crate::acts::push_flag;
-use crate::push::{push_number, push_numbers, push_pair};
+use crate::push::{push_number, push_numbered, push_pair};
 use ima_templates::Placed;
 use inode_events::{Grant, Told};
 use label_values::Verdict;
@@ -22,8 +22,8 @@ pub fn push_told(out: &mut Vec<u8>, told: &Told) -> Result<(), OutOfMemory>
         Told::NotFound => out.extend_from_slice(b"notfound"),
         Told::TextBusy => out.extend_from_slice(b"textbusy"),
         Told::Quiet => out.extend_from_slice(b"quiet"),
-        Told::OpenWriters(place) => push_numbers(out, b"open-writers", &[*place]),
-        Told::ToMToU(place) => push_numbers(out, b"tomtou", &[*place]),
+        Told::OpenWriters(place) => push_numbered(out, b"open-writers", *place),
+        Told::ToMToU(place) => push_numbered(out, b"tomtou", *place),
         Told::Begun => out.extend_from_slice(b"begun"),
         Told::Grant(grant) => push_grant(out, *grant),
         Told::More => out.extend_from_slice(b"more"),

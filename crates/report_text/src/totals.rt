@@ -7,7 +7,7 @@ ghost use Rattle.text_forms.specs.Words.{text_of};
 ghost use Rattle.report_text.specs.Summary.{count_lines, event_count, is_ok_reply, reply_count, size_lines, summary_of};
 
 use crate::lists::push_values;
-use crate::push::{push_numbers, push_sum};
+use crate::push::{push_numbered, push_sum};
 use call_steps::Reply;
 use inode_events::EndedInode;
 use inode_meta::DEFAULT_PCR;
@@ -34,12 +34,11 @@ fn push_sizes(out: &mut Vec<u8>, number: u32, script: usize, e: &Ended) -> Resul
         ≡ out.old.items ++ text_of (size_lines number script e.now)) }
 {
     let list = e.list.as_slice();
-    push_numbers(out, b"gen", &[u64::from(number)])?;
-    push_numbers(out, b"\nscript", &[script as u64])?;
-    push_numbers(out, b"\nlist", &[list.len() as u64])?;
-    push_numbers(out, b" violations", &[violations(list)])?;
-    out.extend_from_slice(b"\n")?;
-    Ok(())
+    push_numbered(out, b"gen", u64::from(number))?;
+    push_numbered(out, b"\nscript", script as u64)?;
+    push_numbered(out, b"\nlist", list.len() as u64)?;
+    push_numbered(out, b" violations", violations(list))?;
+    out.extend_from_slice(b"\n")
 }
 
 fn push_counts(out: &mut Vec<u8>, e: &Ended) -> Result<(), OutOfMemory>
@@ -49,8 +48,7 @@ fn push_counts(out: &mut Vec<u8>, e: &Ended) -> Result<(), OutOfMemory>
     push_sum(out, b"events", count_events(e.inodes.as_slice()))?;
     push_sum(out, b"\nreplies ok", replies.ok)?;
     push_sum(out, b" refused", replies.refused)?;
-    out.extend_from_slice(b"\n")?;
-    Ok(())
+    out.extend_from_slice(b"\n")
 }
 
 fn count_events(inodes: &[EndedInode]) -> u128

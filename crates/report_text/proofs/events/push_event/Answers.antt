@@ -1,11 +1,14 @@
-use Rattle.report_text.proofs.Joins.{event_pushed}
+use Rattle.std.proofs.Common.{codes}
+use Rattle.report_text.proofs.Joins.{event_pushed, last_pushed}
 use Rattle.report_text.proofs.events.push_event.Goals as goal
 
 pub returns : goal.returns
 returns c =
     let e = c.args.event.now in
-    rw (
-      c.in_ok-extend_from_slice-4.ensures.items,
+    last_pushed c.extend_from_slice-4.result c.push_told.new.out.items (codes "\n")
+    c.extend_from_slice-4.new.self.items c.extend_from_slice-4.ensures.items
+    (λ pushed. rw (
+      pushed,
       c.in_ok-push_told.ensures,
       c.in_ok-extend_from_slice-3.ensures.items,
       c.in_ok-push_deed.ensures.text,
@@ -15,4 +18,4 @@ returns c =
       c.in_ok-push_number.ensures,
     )
     (event_pushed c.args.out.now.items c.args.default c.args.grows c.args.place e.who e.deed e.told
-    c.in_default.not-Birth)
+    c.in_default.not-Birth))

@@ -1,7 +1,8 @@
-use Rattle.std.proofs.Common.{◌≡◌, ap}
+use Rattle.std.proofs.Common.{◌≡◌, ap, codes}
 use Rattle.report_text.specs.Numerals.{numeral}
 use Rattle.inode_events.specs.EndedInode.{EndedInodeValue}
 use Rattle.report_text.proofs.Pushed.{inode_head_pushed}
+use Rattle.report_text.proofs.Joins.{last_pushed}
 use Rattle.report_text.proofs.inodes.push_head.Goals as goal
 
 pub returns : goal.returns
@@ -15,19 +16,21 @@ returns c =
     ap (λ (v : EndedInodeValue). v.readers) c.inode.view_is in
     let execs_are : c.inode.inside.execs ≡ i.execs =
     ap (λ (v : EndedInodeValue). v.execs) c.inode.view_is in
-    rw (
-      c.in_ok-extend_from_slice-3.ensures.items,
-      c.in_ok-push_numbers-4.ensures,
-      c.in_ok-push_numbers-3.ensures,
-      c.in_ok-push_numbers-2.ensures,
+    last_pushed c.extend_from_slice-3.result c.push_numbered-4.new.out.items (codes "\n")
+    c.extend_from_slice-3.new.self.items c.extend_from_slice-3.ensures.items
+    (λ pushed. rw (
+      pushed,
+      c.in_ok-push_numbered-4.ensures,
+      c.in_ok-push_numbered-3.ensures,
+      c.in_ok-push_numbered-2.ensures,
       c.in_ok-extend_from_slice-2.ensures.items,
       c.as_slice.ensures.bytes,
       c.in_ok-extend_from_slice.ensures.items,
-      c.in_ok-push_numbers.ensures,
+      c.in_ok-push_numbered.ensures,
       path_is,
       writers_are,
       readers_are,
       execs_are,
     )
     (inode_head_pushed c.args.out.now.items (numeral c.args.number) i.path (numeral i.writers)
-    (numeral i.readers) (numeral i.execs))
+    (numeral i.readers) (numeral i.execs)))

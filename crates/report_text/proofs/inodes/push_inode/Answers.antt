@@ -1,6 +1,7 @@
 use Rattle.std.proofs.Common.{◌≡◌, ap}
 use Rattle.inode_events.specs.EndedInode.{EndedInodeValue}
 use Rattle.report_text.proofs.Pushed.{inode_pushed}
+use Rattle.report_text.proofs.Joins.{when_ok}
 use Rattle.report_text.proofs.inodes.push_inode.Goals as goal
 
 pub returns : goal.returns
@@ -12,10 +13,11 @@ returns c =
     ap (λ (v : EndedInodeValue). v.attrs) c.inode.view_is in
     let force_is : c.inode.inside.force ≡ i.force =
     ap (λ (v : EndedInodeValue). v.force) c.inode.view_is in
-    rw (
-      c.in_ok-push_events.ensures,
+    when_ok c.push_events.result c.push_events.ensures
+    (λ pushed. rw (
+      pushed,
       c.in_ok-extend_from_slice.ensures.items,
-      c.in_ok-push_numbers.ensures,
+      c.in_ok-push_numbered.ensures,
       c.in_ok-push_attrs.ensures,
       c.in_ok-push_force.ensures,
       c.in_ok-push_head.ensures,
@@ -24,4 +26,4 @@ returns c =
       attrs_is,
       force_is,
     )
-    (inode_pushed c.args.out.now.items c.args.default c.args.grows c.args.number i)
+    (inode_pushed c.args.out.now.items c.args.default c.args.grows c.args.number i))

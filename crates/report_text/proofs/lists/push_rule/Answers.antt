@@ -1,12 +1,15 @@
-use Rattle.std.proofs.Common.{arith}
+use Rattle.std.proofs.Common.{arith, codes}
 use Rattle.report_text.proofs.Numerals.{numeral_of_wide}
 use Rattle.report_text.proofs.Pushed.{rule_pushed}
+use Rattle.report_text.proofs.Joins.{last_pushed}
 use Rattle.report_text.proofs.lists.push_rule.Goals as goal
 
 pub returns : goal.returns
 returns c =
-    rw (
-      c.in_ok-extend_from_slice-5.ensures.items,
+    last_pushed c.extend_from_slice-5.result c.print_rule.new.out.items (codes "\n")
+    c.extend_from_slice-5.new.self.items c.extend_from_slice-5.ensures.items
+    (λ pushed. rw (
+      pushed,
       c.in_ok-print_rule.ensures.text,
       c.in_ok-extend_from_slice-4.ensures.items,
       c.in_ok-push_who.ensures,
@@ -17,4 +20,4 @@ returns c =
       numeral_of_wide c.args.place (omega arith),
       c.in_ok-extend_from_slice.ensures.items,
     )
-    (rule_pushed c.args.out.now.items c.args.place c.args.entry.now)
+    (rule_pushed c.args.out.now.items c.args.place c.args.entry.now))

@@ -1,9 +1,10 @@
-use Rattle.std.proofs.Common.{◌≡◌, ap}
+use Rattle.std.proofs.Common.{◌≡◌, ap, codes}
 use Rattle.std.specs.Prelude.{not}
 use Rattle.report_text.specs.Numerals.{numeral}
 use Rattle.run_model.specs.EndedValue.{EndedValue}
 use Rattle.report_text.specs.Summary.{event_count, is_ok_reply, reply_count}
 use Rattle.report_text.proofs.Summed.{counts_pushed}
+use Rattle.report_text.proofs.Joins.{last_pushed}
 use Rattle.report_text.proofs.totals.push_counts.Goals as goal
 
 pub returns : goal.returns
@@ -13,8 +14,10 @@ returns c =
     ap (λ (v : EndedValue). v.inodes) c.e.view_is in
     let tasks_are : c.e.inside.tasks.items ≡ e.tasks = ap (λ (v : EndedValue). v.tasks) c.e.view_is
     in
-    rw (
-      c.in_ok-extend_from_slice.ensures.items,
+    last_pushed c.extend_from_slice.result c.push_sum-3.new.out.items (codes "\n")
+    c.extend_from_slice.new.self.items c.extend_from_slice.ensures.items
+    (λ pushed. rw (
+      pushed,
       c.in_ok-push_sum-3.ensures,
       c.in_ok-push_sum-2.ensures,
       c.in_ok-push_sum.ensures,
@@ -28,4 +31,4 @@ returns c =
     )
     (counts_pushed c.args.out.now.items (numeral (event_count e.inodes))
     (numeral (reply_count is_ok_reply e.tasks))
-    (numeral (reply_count (λ r. not (is_ok_reply r)) e.tasks)))
+    (numeral (reply_count (λ r. not (is_ok_reply r)) e.tasks))))
