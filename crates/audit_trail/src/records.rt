@@ -42,8 +42,7 @@ fn push_front(
     out.extend_from_slice(b" line ")?;
     push_number(out, line)?;
     out.extend_from_slice(b" ")?;
-    out.extend_from_slice(site.file.path.as_slice())?;
-    Ok(())
+    out.extend_from_slice(site.file.path.as_slice())
 }
 
 // Prints a space and the label of the digest in hexadecimal.

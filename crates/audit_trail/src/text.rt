@@ -32,8 +32,16 @@ fn trail_by(
 {
     let mut lines = Vec::new(alloc);
     let count = push_inodes(alloc, &mut lines, context, inodes)?;
+    trail_with(alloc, count, lines.as_slice())
+}
+
+// The trail of so many records, whose lines are these.
+fn trail_with(alloc: Global, count: u64, lines: &[u8]) -> Result<Vec<u8>, OutOfMemory>
+    ensures { (ls : List Line) → count ≡ length ls → lines.now ≡ text_of ls
+        → IfOk result (λ text. text.items ≡ text_of (trail_lines ls)) }
+{
     let mut out = Vec::new(alloc);
-    push_trail(&mut out, count, lines.as_slice())?;
+    push_trail(&mut out, count, lines)?;
     Ok(out)
 }
 

@@ -1,4 +1,4 @@
-use Rattle.std.proofs.Common.{◌≡◌, ◌++◌, List, length, sym, ◌∙◌, ap, subst}
+use Rattle.std.proofs.Common.{◌≡◌, ◌++◌, List, length, sym, ◌∙◌, ap, arith, subst}
 use Rattle.std.specs.Prelude.{IfOk}
 use Rattle.std.proofs.lemmas.List.{append-nil}
 use Rattle.report_text.specs.Words.{Line}
@@ -24,6 +24,12 @@ returns-in_default-clause-count c =
     sym (ap (λ (l : List Line). length l)
     (none_numbered c.args.context.now c.args.number c.args.inode.now
     (sym c.in_default.ensures.file)))
+
+pub returns-in_default-clause-grows : goal.returns-in_default-clause-grows
+returns-in_default-clause-grows c = omega arith
+
+pub site_of-requires : goal.site_of-requires
+site_of-requires c = c.requires.placed
 
 pub push_events-requires-clause-walk : goal.push_events-requires-clause-walk
 push_events-requires-clause-walk c =
@@ -52,3 +58,6 @@ returns-clause-count c =
     c.as_slice-journal.result.now c.in-Some.ensures.number (sym c.in-Some.ensures.file)
     (c.as_slice-journal.ensures.value
     ∙ ap (λ (e : EndedInodeValue). e.journal) c.inode.view_is)) c.push_events.ensures.count
+
+pub returns-clause-grows : goal.returns-clause-grows
+returns-clause-grows c = c.push_events.ensures.grows

@@ -1,10 +1,12 @@
-use Rattle.audit_trail.proofs.Printing.{front_pushed}
+use Rattle.audit_trail.proofs.Printing.{front_pushed, last_pushed}
 use Rattle.audit_trail.proofs.records.push_front.Goals as goal
 
 pub returns : goal.returns
 returns c =
-    rw (
-      c.in_ok-extend_from_slice-5.ensures.items,
+    last_pushed c.extend_from_slice-5.result c.extend_from_slice-4.new.self.items
+    c.as_slice.result.now c.extend_from_slice-5.new.self.items c.extend_from_slice-5.ensures.items
+    (λ pushed. rw (
+      pushed,
       c.as_slice.ensures.bytes,
       c.in_ok-extend_from_slice-4.ensures.items,
       c.in_ok-push_number.ensures,
@@ -14,4 +16,4 @@ returns c =
       c.in_ok-extend_from_slice.ensures.items,
     )
     (front_pushed c.args.out.now.items c.args.word.now c.args.site.now.number c.args.place
-    c.args.who c.args.line c.args.site.now.file.now.path)
+    c.args.who c.args.line c.args.site.now.file.now.path))

@@ -1,7 +1,6 @@
 use Rattle.std.proofs.Common.{List, ℕ, ◌≡◌, ◌++◌, ◌∙◌, ap}
 use Rattle.world_model.specs.model.events.forms.Words.{text_of}
 use Rattle.audit_trail.specs.Sites.{lines_from}
-use Rattle.audit_trail.specs.Trail.{trail_lines}
 use Rattle.audit_trail.proofs.text.trail_by.Goals as goal
 
 pub returns : goal.returns
@@ -10,8 +9,5 @@ returns c =
     c.as_slice.ensures.value ∙ c.in_ok-count.ensures.text
     ∙ ap (λ (l : List ℕ). l ++ text_of (lines_from c.args.context.now 0 c.args.inodes.now))
     c.new-lines.ensures.items in
-    c.in_ok-push_trail.ensures (lines_from c.args.context.now 0 c.args.inodes.now)
+    c.trail_with.ensures (lines_from c.args.context.now 0 c.args.inodes.now)
     c.in_ok-count.ensures.count body
-    ∙ ap (λ (l : List ℕ). l
-    ++ text_of (trail_lines (lines_from c.args.context.now 0 c.args.inodes.now)))
-    c.new-out.ensures.items
