@@ -115,6 +115,18 @@ trail_pushed o count body ls c b =
     ∙ ap (λ (l : List ℕ). o ++ (line_text (codes "trail" ∷ numeral (length ls) ∷ []) ++ l))
     (sym (flat_map-append line_text ls ((codes "end" ∷ []) ∷ [])))
 
+-- the text of a record, as it was appended, is longer by its newline at least
+pub grown : (old front middle new a b : List ℕ) → front ≡ old ++ a → middle ≡ front ++ b
+    → new ≡ middle ++ codes "\n" → length old + 1 ≤ length new
+grown old front middle new a b x y z =
+    let first : length front ≡ length old + length a =
+    ap (λ (l : List ℕ). length l) x ∙ length-append old a in
+    let second : length middle ≡ length front + length b =
+    ap (λ (l : List ℕ). length l) y ∙ length-append front b in
+    let third : length new ≡ length middle + 1 =
+    ap (λ (l : List ℕ). length l) z ∙ length-append middle (codes "\n") in
+    omega arith
+
 -- the last piece, if it was appended
 pub last_pushed : {E Q : Type 0} (r : Result (Unit {0}) E) (old more new : List ℕ)
     → new ≡ cond (is_ok r) (old ++ more) old → (new ≡ old ++ more → Q) → OnOk r Q

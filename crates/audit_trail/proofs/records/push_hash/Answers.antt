@@ -1,6 +1,8 @@
-use Rattle.std.proofs.Common.{ℕ, List, ◌∷◌, ◌++◌, codes, Option, sym, ◌∙◌, ap}
+use Rattle.std.proofs.Common.{ℕ, ◌+◌, ◌≤◌, List, ◌∷◌, ◌++◌, length, codes, Option, sym, ◌∙◌, ap, arith}
+use Rattle.std.proofs.lemmas.List.{append-nil}
 use Rattle.world_model.specs.model.events.forms.Words.{text_of}
-use Rattle.audit_trail.proofs.Printing.{record_pushed, text_of_one}
+use Rattle.audit_trail.proofs.Printing.{grown, record_pushed, text_of_one}
+use Rattle.audit_trail.specs.Texts.{front_text}
 use Rattle.audit_trail.specs.Trail.{hash_line, if_line, label_word}
 use Rattle.audit_trail.proofs.records.push_hash.Goals as goal
 
@@ -17,3 +19,30 @@ returns-clause-text c =
     ∙ ap (λ (o : Option ℕ). c.args.out.now.items ++ text_of (if_line
     (hash_line c.args.site.now.number c.args.place c.args.who c.args.site.now.file.now.path
     c.args.digest.now) o)) (sym c.in-Some.is)
+
+pub returns-clause-count : goal.returns-clause-count
+returns-clause-count c =
+    sym (ap (λ (o : Option ℕ). length (if_line (hash_line c.args.site.now.number c.args.place
+    c.args.who c.args.site.now.file.now.path c.args.digest.now) o)) c.in-Some.is)
+
+pub returns-clause-grows : goal.returns-clause-grows
+returns-clause-grows c =
+    let more : length c.args.out.now.items + 1 ≤ length c.extend_from_slice.new.self.items =
+    grown c.args.out.now.items c.push_front.new.out.items c.push_label.new.out.items
+    c.extend_from_slice.new.self.items
+    (front_text (codes "hash") c.args.site.now.number c.args.place c.args.who c.in-Some.line
+    c.args.site.now.file.now.path) (32 ∷ label_word c.args.digest.now) c.in_ok-push_front.ensures
+    c.in_ok-push_label.ensures c.in_ok-extend_from_slice.ensures.items in
+    omega (arith, c.args.out.now.ok.0, c.extend_from_slice.new.self.ok.0)
+
+-- without a line there is no record
+pub returns-in_default-clause-text : goal.returns-in_default-clause-text
+returns-in_default-clause-text c =
+    sym (ap (λ (o : Option ℕ). c.args.out.now.items ++ text_of (if_line (hash_line c.args.site.now.number c.args.place
+    c.args.who c.args.site.now.file.now.path c.args.digest.now) o)) c.in_default.is
+    ∙ append-nil c.args.out.now.items)
+
+pub returns-in_default-clause-count : goal.returns-in_default-clause-count
+returns-in_default-clause-count c =
+    sym (ap (λ (o : Option ℕ). length (if_line (hash_line c.args.site.now.number c.args.place
+    c.args.who c.args.site.now.file.now.path c.args.digest.now) o)) c.in_default.is)
