@@ -1,2 +1,3 @@
+pub mod Firsts
 mod Examples
 pub use Rattle.script_words.proofs as about_lines
