@@ -18,13 +18,15 @@ use Rattle.world_model.specs.model.events.hashes.Digest.{digest_of}
 use Rattle.world_model.specs.model.events.Inode.{Inode}
 use Rattle.world_model.specs.model.events.labels.Labels.{collect_algo}
 use Rattle.world_model.specs.model.events.meta.declared.step.Who.{Who}
+use Rattle.world_model.specs.model.matching.declared.family.Family.TheVariants.{Auditing, Hashing}
 use Rattle.world_model.specs.model.policy.declared.access.Action.{Action}
 use Rattle.world_model.specs.model.policy.declared.access.Super.{Super}
 use Rattle.world_model.specs.model.policy.declared.rule.Func.{Func}
 use Rattle.audit_trail.proofs.Placed.{mapped_there}
 use Rattle.audit_trail.proofs.Standing.{past_count, past_next}
+use Rattle.audit_trail.specs.Asked.{asker_of, line_for}
 use Rattle.audit_trail.specs.Sites.{event_lines, inode_at, numbered_lines, programs_in, script_file_at, script_files_in, site_lines}
-use Rattle.audit_trail.specs.Trail.{inode_lines, journal_lines, step_lines}
+use Rattle.audit_trail.specs.Trail.{inode_lines, journal_lines, lines_of, step_lines}
 use Rattle.audit_trail.specs.Walk.{IsWalk, digest_at}
 use Rattle.audit_trail.specs.declared.site.Context.{Context}
 use Rattle.audit_trail.specs.declared.site.Site.{Site}
@@ -97,3 +99,17 @@ pub no_check : (c : Context) (s : Site) (k : ℕ) (w : Walk) (who : Who) (d : De
 no_check c s k w who (deed.Check file func action n) t other =
     absurd (other file func action n refl)
 no_check c s k w who d t other = refl
+
+-- a check has those of the lines that ask for them
+pub of_check : (c : Context) (s : Site) (k : ℕ) (w : Walk) (who : Who) (d : Deed) (t : Told)
+    (file : ℕ) (func : Func) (action : Action) (n : ℕ) (audit hash : Option ℕ)
+    → d ≡ deed.Check file func action n
+    → audit ≡ line_for Auditing (take n c.rules.now) s.system.now w.meta func
+    (asker_of (programs_in c) who)
+    → hash ≡ line_for Hashing (take n c.rules.now) s.system.now w.meta func
+    (asker_of (programs_in c) who)
+    → lines_of s.number k who s.file.now.path (digest_at c.settings.now.hash w) audit hash
+    ≡ event_lines c s k w (record { who = who; deed = d; told = t })
+of_check c s k w who d t file func action n audit hash is a h =
+    (λ j. lines_of s.number k who s.file.now.path (digest_at c.settings.now.hash w) (a j) (h j))
+    ∙ sym (ap (λ (x : Deed). event_lines c s k w (record { who = who; deed = x; told = t })) is)

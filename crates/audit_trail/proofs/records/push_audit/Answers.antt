@@ -40,8 +40,9 @@ returns-clause-grows c =
 -- without a line there is no record
 pub returns-in_default-clause-text : goal.returns-in_default-clause-text
 returns-in_default-clause-text c =
-    sym (ap (λ (o : Option ℕ). c.args.out.now.items ++ text_of (if_line (audit_line c.args.site.now.number c.args.place
-    c.args.who c.args.site.now.file.now.path c.args.digest.now) o)) c.in_default.is
+    sym (ap (λ (o : Option ℕ). c.args.out.now.items ++ text_of (if_line
+    (audit_line c.args.site.now.number c.args.place c.args.who c.args.site.now.file.now.path
+    c.args.digest.now) o)) c.in_default.is
     ∙ append-nil c.args.out.now.items)
 
 pub returns-in_default-clause-count : goal.returns-in_default-clause-count
