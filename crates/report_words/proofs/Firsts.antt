@@ -28,25 +28,46 @@ module _ {X : Type 0} (view : X → List ℕ) (test : List ℕ → Bool) where
   after_other [] d l e = absurd (omega arith)
   after_other (x ∷ xs) d l e = sym (ap (λ (b : Bool). cond b (Some (map view xs)) None) e)
 
--- ---- what the first word gives, and the words after it
+-- ---- what is read of the words after the first, by what that gives
 
-module _ {X A : Type 0} (view : X → List ℕ) (of : List ℕ → Option A)
-    (all : Words → Option (A × Words))
-    (step : (w : List ℕ) (ws : Words) → all (w ∷ ws) ≡ (of w >>= λ a. Some (a, ws))) where
-  pub first_given : (xs : List X) (d : X) (a : A) → 1 ≤ length xs
+module _ {X A B : Type 0} (view : X → List ℕ) (of : List ℕ → Option A)
+    (next : A → Words → Option B) (all : Words → Option B)
+    (step : (w : List ℕ) (ws : Words) → all (w ∷ ws) ≡ (of w >>= λ a. next a ws)) where
+  pub next_given : (xs : List X) (d : X) (a : A) → 1 ≤ length xs
       → of (view (get_or xs 0 d)) ≡ Some a
-      → Some (a, map view (take (length xs - 1) (drop 1 xs))) ≡ all (map view xs)
-  first_given [] d a l e = absurd (omega arith)
-  first_given (x ∷ xs) d a l e =
+      → next a (map view (take (length xs - 1) (drop 1 xs))) ≡ all (map view xs)
+  next_given [] d a l e = absurd (omega arith)
+  next_given (x ∷ xs) d a l e =
       let rest : take (length (x ∷ xs) - 1) xs ≡ xs =
       take_all (length (x ∷ xs) - 1) xs (omega arith) in
-      ap (λ (ys : List X). Some (a, map view ys)) rest
+      ap (λ (ys : List X). next a (map view ys)) rest
       ∙ sym (step (view x) (map view xs)
-      ∙ ap (λ (o : Option A). o >>= λ b. Some (b, map view xs)) e)
+      ∙ ap (λ (o : Option A). o >>= λ b. next b (map view xs)) e)
 
-  pub none_given : (xs : List X) (d : X) → 1 ≤ length xs → of (view (get_or xs 0 d)) ≡ None
+  pub nothing_next : (xs : List X) (d : X) → 1 ≤ length xs → of (view (get_or xs 0 d)) ≡ None
       → None ≡ all (map view xs)
-  none_given [] d l e = absurd (omega arith)
-  none_given (x ∷ xs) d l e =
+  nothing_next [] d l e = absurd (omega arith)
+  nothing_next (x ∷ xs) d l e =
       sym (step (view x) (map view xs)
-      ∙ ap (λ (o : Option A). o >>= λ b. Some (b, map view xs)) e)
+      ∙ ap (λ (o : Option A). o >>= λ b. next b (map view xs)) e)
+
+-- ---- the words without the first, if that passes a test
+
+module _ {X : Type 0} (view : X → List ℕ) (test : List ℕ → Bool) (all : Words → Words)
+    (step : (w : List ℕ) (ws : Words) → all (w ∷ ws) ≡ cond (test w) ws (w ∷ ws)) where
+  pub first_left_out : (xs : List X) (d : X) → 1 ≤ length xs → test (view (get_or xs 0 d)) ≡ true
+      → map view (take (length xs - 1) (drop 1 xs)) ≡ all (map view xs)
+  first_left_out [] d l e = absurd (omega arith)
+  first_left_out (x ∷ xs) d l e =
+      let rest : take (length (x ∷ xs) - 1) xs ≡ xs =
+      take_all (length (x ∷ xs) - 1) xs (omega arith) in
+      ap (λ (ys : List X). map view ys) rest
+      ∙ sym (step (view x) (map view xs)
+      ∙ ap (λ (b : Bool). cond b (map view xs) (view x ∷ map view xs)) e)
+
+  pub first_left : (xs : List X) (d : X) → 1 ≤ length xs → test (view (get_or xs 0 d)) ≡ false
+      → map view xs ≡ all (map view xs)
+  first_left [] d l e = absurd (omega arith)
+  first_left (x ∷ xs) d l e =
+      sym (step (view x) (map view xs)
+      ∙ ap (λ (b : Bool). cond b (map view xs) (view x ∷ map view xs)) e)
