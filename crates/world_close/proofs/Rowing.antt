@@ -1,7 +1,7 @@
 -- The rows of the tasks' passes give their last passes to a column.
-use Rattle.std.proofs.Common.{◌≡◌, ℕ, ◌+◌, ◌<◌, ◌≤◌, List, [], ◌∷◌, ◌++◌, length, refl, ap, sym, ◌∙◌, arith, Some, ◌⊎◌, inl, inr, length-append, get_or, suc, zero}
-use Rattle.std.specs.Prelude.{All, slice_get, slice_set}
-use Rattle.std.proofs.lemmas.Option.{same_Some}
+use Rattle.std.proofs.Common.{◌≡◌, ℕ, ◌+◌, ◌<◌, ◌≤◌, List, [], ◌∷◌, ◌++◌, length, ap, sym, ◌∙◌, arith, Some, ◌⊎◌, inl, inr, subst, length-append, get_or, suc, zero}
+use Rattle.std.specs.Prelude.{slice_get, slice_set}
+use Rattle.std.proofs.lemmas.Option.{same_Some, slice_get_within}
 use Rattle.grow_list.specs.Shown.{Grown, ListName, Passed}
 use Rattle.grow_list.specs.Others.{HasOthers}
 use Rattle.grow_list.proofs.Others.{others_in_order}
@@ -92,6 +92,25 @@ mid_more k n names rows column row row2 q m at split = record {
       → RowFits (n + 1) names j r
   left j r above (inl w) = let e : k ≡ j = w.0 in absurd (omega arith)
   left j r above (inr w) = m.left j r (omega arith) w.1
+
+-- before the first row
+pub mid_none : (n : ℕ) (names : ℕ → ListName) (rows : List (List (Passed Event)))
+    (column : List (Passed Event)) → column ≡ [] → RowsFit (n + 1) names rows
+    → RowsMid 0 n names rows column
+mid_none n names rows column none fit = record {
+  count = ap length none;
+  column_fits = subst (λ (l : List (Passed Event)). ColumnFits (names n) l) (sym none)
+      (λ k q at. let b : k < 0 = slice_get_within [] k q at in absurd (omega arith));
+  given = λ j row below at. absurd (omega arith);
+  left = λ j row above at. fit j row at;
+}
+
+-- after the last row
+pub mid_all : (k n : ℕ) (names : ℕ → ListName) (rows : List (List (Passed Event)))
+    (column : List (Passed Event)) → length rows ≤ k → RowsMid k n names rows column
+    → RowsFit n names rows
+mid_all k n names rows column all m j row at =
+    m.given j row (let b : j < length rows = slice_get_within rows j row at in omega arith) at
 
 -- the passes of a complete column are all passes of the journal except its own
 pub column_others : (c : CellValue) (name : ListName) (column : List (Passed Event))

@@ -1,4 +1,4 @@
-ghost use Rattle.std.specs.Prelude.{◌≡◌, ℕ, ◌+◌, ◌++◌, [], length, map, All, IfOk, Some, slice_get};
+ghost use Rattle.std.specs.Prelude.{◌≡◌, ℕ, ◌+◌, [], ◌∷◌, ◌++◌, length, map, All, IfOk, OnOk, Some, slice_get};
 ghost use Rattle.measure_book.specs.Replay.{banks_of};
 ghost use Rattle.world_model.specs.WorldConsts.{WorldConsts};
 ghost use Rattle.world_model.specs.Tasks.{ArePassesOf, PassesValue};
@@ -52,6 +52,29 @@ struct PassesByList {
     rules: Vec<Pass<RuleEntry>>,
 }
 
+impl PassesByList {
+    // Appends the passes of one more task.
+    fn push(&mut self, one: Passes) -> Result<(), OutOfMemory>
+        ensures rows { OnOk result (self.new.rows.items ≡ self.old.rows.items ++ one.inodes ∷ []) }
+        ensures sems { OnOk result (self.new.sems.items ≡ self.old.sems.items ++ one.sems ∷ []) }
+        ensures book { OnOk result (self.new.book.items ≡ self.old.book.items ++ one.book ∷ []) }
+        ensures rules { OnOk result
+            (self.new.rules.items ≡ self.old.rules.items ++ one.rules ∷ []) }
+    {
+        let Passes {
+            inodes,
+            sems,
+            book,
+            rules,
+        } = one;
+        self.rows.push(Row::new(inodes))?;
+        self.sems.push(sems)?;
+        self.book.push(book)?;
+        self.rules.push(rules)?;
+        Ok(())
+    }
+}
+
 fn split_by_list(alloc: Global, passes: Vec<Passes>) -> Result<PassesByList, OutOfMemory>
     ensures rows { IfOk result (λ p. p.rows.items
         ≡ map (λ (q : PassesValue). q.inodes) passes.items) }
@@ -69,16 +92,7 @@ fn split_by_list(alloc: Global, passes: Vec<Passes>) -> Result<PassesByList, Out
         rules: Vec::new(alloc),
     };
     for one in passes {
-        let Passes {
-            inodes,
-            sems,
-            book,
-            rules,
-        } = one;
-        by_list.rows.push(Row::new(inodes))?;
-        by_list.sems.push(sems)?;
-        by_list.book.push(book)?;
-        by_list.rules.push(rules)?;
+        by_list.push(one)?;
     }
     Ok(by_list)
 }

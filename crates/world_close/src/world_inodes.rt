@@ -1,5 +1,5 @@
 // The inodes of a world, closed from the last one to the first.
-ghost use Rattle.std.specs.Prelude.{◌≡◌, ℕ, ◌+◌, [], ◌∷◌, ◌++◌, length, IfOk, OnOk};
+ghost use Rattle.std.specs.Prelude.{◌≡◌, ℕ, ◌+◌, [], ◌∷◌, ◌++◌, length, reverse, IfOk, OnOk};
 ghost use Rattle.grow_list.specs.Shown.{ListName};
 ghost use Rattle.world_close.specs.Closed.{AreClosed, IsPushed, ended_world_inode};
 ghost use Rattle.world_close.specs.Rows.{AreNamed, RowsFit};
@@ -33,15 +33,44 @@ impl Model for Closed {
     } };
 }
 
+impl Closed {
+    // Appends one more closed inode and its passes.
+    fn push(
+        &mut self,
+        inode: EndedInode,
+        listed: Pass<Entry>,
+        pass: Pass<RuleEntry>,
+    ) -> Result<(), OutOfMemory>
+        ensures inodes { OnOk result (self.new.inodes ≡ self.old.inodes ++ inode ∷ []) }
+        ensures book { OnOk result (self.new.book ≡ self.old.book ++ listed ∷ []) }
+        ensures rules { OnOk result (self.new.rules ≡ self.old.rules ++ pass ∷ []) }
+    {
+        self.inodes.push(inode)?;
+        self.book.push(listed)?;
+        self.rules.push(pass)?;
+        Ok(())
+    }
+
+    fn reverse(&mut self)
+        ensures { self.new ≡ record {
+          inodes = reverse self.old.inodes;
+          book = reverse self.old.book;
+          rules = reverse self.old.rules;
+        } }
+    {
+        self.inodes.reverse();
+        self.book.reverse();
+        self.rules.reverse();
+    }
+}
+
 // Closes the last inode with the last pass of each row.
 fn close_last(
     alloc: Global,
     world_inode: WorldInode,
     number: usize,
     rows: &mut Vec<Row>,
-    inodes: &mut Vec<EndedInode>,
-    book: &mut Vec<Pass<Entry>>,
-    rules: &mut Vec<Pass<RuleEntry>>,
+    closed: &mut Closed,
 ) -> Result<(), OutOfMemory>
     ghost names: { ℕ → ListName }
     requires fit { RowsFit (number + 1) names rows.old.items }
@@ -50,21 +79,18 @@ fn close_last(
     ensures fit { OnOk result (RowsFit number names rows.new.items) }
     ensures count { OnOk result (length rows.new.items ≡ length rows.old.items) }
     ensures inodes { OnOk result
-        (inodes.new.items ≡ inodes.old.items ++ ended_world_inode world_inode ∷ []) }
-    ensures book { OnOk result (IsPushed world_inode book.old.items book.new.items) }
-    ensures rules { OnOk result (rules.new.items ≡ rules.old.items ++ world_inode.rules ∷ []) }
+        (closed.new.inodes ≡ closed.old.inodes ++ ended_world_inode world_inode ∷ []) }
+    ensures book { OnOk result (IsPushed world_inode closed.old.book closed.new.book) }
+    ensures rules { OnOk result (closed.new.rules ≡ closed.old.rules ++ world_inode.rules ∷ []) }
 {
     let WorldInode {
         cell,
-        rules: pass,
+        rules,
         place: _,
     } = world_inode;
     let column = take_last(alloc, rows, number)?;
-    let (ended, listed) = cell.close(column);
-    inodes.push(ended)?;
-    book.push(listed)?;
-    rules.push(pass)?;
-    Ok(())
+    let (inode, listed) = cell.close(column);
+    closed.push(inode, listed, rules)
 }
 
 // Closes the inodes of a world with the passes of its tasks.
@@ -80,27 +106,15 @@ pub(crate) fn close_world_inodes(
 {
     let mut left = world_inodes;
     let mut rows = rows;
-    let mut inodes = Vec::new(alloc);
-    let mut book = Vec::new(alloc);
-    let mut rules = Vec::new(alloc);
+    let mut closed = Closed {
+        inodes: Vec::new(alloc),
+        book: Vec::new(alloc),
+        rules: Vec::new(alloc),
+    };
     while let Some(world_inode) = left.pop() {
         let number = left.len();
-        close_last(
-            alloc,
-            world_inode,
-            number,
-            &mut rows,
-            &mut inodes,
-            &mut book,
-            &mut rules,
-        )?;
+        close_last(alloc, world_inode, number, &mut rows, &mut closed)?;
     }
-    inodes.reverse();
-    book.reverse();
-    rules.reverse();
-    Ok(Closed {
-        inodes,
-        book,
-        rules,
-    })
+    closed.reverse();
+    Ok(closed)
 }

@@ -36,8 +36,8 @@ loop-world_inode-preserved g c =
           let m = n.0 k s at in (m.0, m.1 ∙ ap (λ (x : ℕ). x + 1) (sym done.count));
       closed = closed_more c.args.world_inodes.items c.loop-world_inode.left.items
           c.pop.new.self.items
-          c.in-Some.world_inode c.loop-world_inode.inodes.items c.close_last.new.inodes.items
-          c.loop-world_inode.book.items c.close_last.new.book.items c.loop-world_inode.rules.items
-          c.close_last.new.rules.items c.in-Some.ensures.items done.inodes done.book done.rules
+          c.in-Some.world_inode c.loop-world_inode.closed.inodes c.close_last.new.closed.inodes
+          c.loop-world_inode.closed.book c.close_last.new.closed.book c.loop-world_inode.closed.rules
+          c.close_last.new.closed.rules c.in-Some.ensures.items done.inodes done.book done.rules
           old.closed;
     }

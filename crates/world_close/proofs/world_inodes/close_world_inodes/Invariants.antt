@@ -11,8 +11,8 @@ invariant-loop-world_inode g l = record {
   count : length l.rows.items ≡ length l.fn.rows.items;
   fit : RowsFit (length l.left.items) g.names l.rows.items;
   named : AreNamed g.names (length l.rows.items) l.left.items;
-  closed : AreClosedAfter l.fn.world_inodes.items l.left.items l.inodes.items l.book.items
-      l.rules.items;
+  closed : AreClosedAfter l.fn.world_inodes.items l.left.items l.closed.inodes l.closed.book
+      l.closed.rules;
 }
 
 abbrev pub decreases-loop-world_inode : goal.decreases-loop-world_inode
