@@ -7,8 +7,63 @@ use Rattle.world_model.specs.Tasks.{Tasked}
 use Rattle.task_state.specs.Steps.{deed_in}
 use Rattle.task_state.specs.declared.step.Step.TheVariants as step
 use Rattle.world_locks.proofs.about_acts.Sharing.{nothing_tells}
-use Rattle.task_core.proofs.Turns.{appends_fail, appends_turn, check_turn, checks_ready, does_ready, does_turn, due_is, signals_turn}
+use Rattle.task_core.proofs.Turns.{appends_fail, appends_turn, check_turn, checks_ready, does_ready, does_turn, due_is, passes_ready, signals_turn}
 use Rattle.task_core.proofs.world.World.try_step.Goals as goal
+
+pub apply-requires-clause-passes : goal.apply-requires-clause-passes
+apply-requires-clause-passes c =
+    let t : Tasked =
+    record {
+      number = c.args.number;
+      task_state = c.args.task_state.now;
+      hash_state = c.args.hash_state.now;
+      passes = c.args.passes.now;
+    } in
+    passes_ready c.args.self.now.consts t c.requires c.who-who.result c.who-who.ensures
+
+pub check-requires-clause-passes : goal.check-requires-clause-passes
+check-requires-clause-passes c =
+    let t : Tasked =
+    record {
+      number = c.args.number;
+      task_state = c.args.task_state.now;
+      hash_state = c.args.hash_state.now;
+      passes = c.args.passes.now;
+    } in
+    passes_ready c.args.self.now.consts t c.requires c.who-who.result c.who-who.ensures
+
+pub signal-requires : goal.signal-requires
+signal-requires c =
+    let t : Tasked =
+    record {
+      number = c.args.number;
+      task_state = c.args.task_state.now;
+      hash_state = c.args.hash_state.now;
+      passes = c.args.passes.now;
+    } in
+    passes_ready c.args.self.now.consts t c.requires c.who-who.result c.who-who.ensures
+
+pub signal-requires-in-Some-Waits : goal.signal-requires-in-Some-Waits
+signal-requires-in-Some-Waits c =
+    let t : Tasked =
+    record {
+      number = c.args.number;
+      task_state = c.args.task_state.now;
+      hash_state = c.args.hash_state.now;
+      passes = c.args.passes.now;
+    } in
+    passes_ready c.args.self.now.consts t c.requires c.who-who.result c.who-who.ensures
+
+pub append-requires : goal.append-requires
+append-requires c =
+    let t : Tasked =
+    record {
+      number = c.args.number;
+      task_state = c.args.task_state.now;
+      hash_state = c.args.hash_state.now;
+      passes = c.args.passes.now;
+    } in
+    passes_ready c.args.self.now.consts t c.requires c.who-who.result c.who-who.ensures
 
 pub apply-requires-clause-ready : goal.apply-requires-clause-ready
 apply-requires-clause-ready c =
