@@ -1,5 +1,6 @@
 -- After its turn the task is still one of the world.
 use Rattle.std.proofs.Common.{◌≡◌, ◌∙◌, ap, sym, subst}
+use Rattle.std.proofs.lemmas.Result.{err_from_is_err_and}
 use Rattle.run_model.specs.declared.turn.Turn.{Turn}
 use Rattle.task_core.proofs.SharedSteps.{HasRoom, goes_with}
 use Rattle.task_core.proofs.Turns.{left_still, task_same, turned_goes, turned_still}
@@ -97,3 +98,27 @@ returns-clause-go c =
     c.try_step.new.passes c.try_step.new.hash_state c.try_step.result
     c.world.inside.parts.settings.mode c.go_on.new.task_state c.in_ok-turned.turned
     c.in_ok-turned.was c.try_step.ensures.reaches mode c.go_on.ensures.goes))
+
+pub returns-in_err-reserve-clause-go : goal.returns-in_err-reserve-clause-go
+returns-in_err-reserve-clause-go c =
+    let p = err_from_is_err_and c.from_residual.result c.from_residual.ensures.1 in
+    rw (p.1) tt
+
+pub returns-in_err-turned-clause-go : goal.returns-in_err-turned-clause-go
+returns-in_err-turned-clause-go c =
+    let p = err_from_is_err_and c.from_residual-in_err-turned.result c.from_residual-in_err-turned.ensures.1 in
+    rw (p.1) tt
+
+pub returns-in_err-reserve-clause-number : goal.returns-in_err-reserve-clause-number
+returns-in_err-reserve-clause-number c = ap (λ (x : Tasked). x.number) c.self.view_is
+
+pub returns-in_err-reserve-clause-program : goal.returns-in_err-reserve-clause-program
+returns-in_err-reserve-clause-program c =
+    c.reserve.ensures.same.program ∙ ap (λ (x : Tasked). x.task_state.program) c.self.view_is
+
+pub returns-in_err-turned-clause-number : goal.returns-in_err-turned-clause-number
+returns-in_err-turned-clause-number c = ap (λ (x : Tasked). x.number) c.self.view_is
+
+pub returns-in_err-turned-clause-program : goal.returns-in_err-turned-clause-program
+returns-in_err-turned-clause-program c =
+    c.reserve.ensures.same.program ∙ ap (λ (x : Tasked). x.task_state.program) c.self.view_is

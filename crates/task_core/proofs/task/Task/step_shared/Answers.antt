@@ -1,5 +1,6 @@
 -- After its turn the task is still one of the world, and the turn was one on the lists that it met.
 use Rattle.std.proofs.Common.{◌≡◌, ◌∙◌, ap, refl, sym, subst}
+use Rattle.std.proofs.lemmas.Result.{err_from_is_err_and}
 use Rattle.task_core.proofs.SharedSteps.{HasRoom, blocked_by, idle_adds, on_err, steps_with}
 use Rattle.task_core.proofs.Turns.{left_still, task_same, turned_still}
 use Rattle.world_model.specs.Tasks.{IsTask, Tasked}
@@ -145,3 +146,47 @@ returns-clause-idle g c =
     idle_adds g.N.Name.consts c.args.self.now t room c.try_step.new.passes
     c.try_step.new.hash_state c.try_step.result c.in_ok-turned.turned c.in_ok-turned.was
     c.try_step.ensures c.go_on.result c.go_on.ensures.turn
+
+pub returns-in_err-reserve-clause-go : goal.returns-in_err-reserve-clause-go
+returns-in_err-reserve-clause-go g c =
+    let p = err_from_is_err_and c.from_residual.result c.from_residual.ensures.1 in
+    rw (p.1) tt
+
+pub returns-in_err-reserve-clause-blocked : goal.returns-in_err-reserve-clause-blocked
+returns-in_err-reserve-clause-blocked g c =
+    let p = err_from_is_err_and c.from_residual.result c.from_residual.ensures.1 in
+    rw (p.1) tt
+
+pub returns-in_err-reserve-clause-idle : goal.returns-in_err-reserve-clause-idle
+returns-in_err-reserve-clause-idle g c =
+    let p = err_from_is_err_and c.from_residual.result c.from_residual.ensures.1 in
+    rw (p.1) tt
+
+pub returns-in_err-turned-clause-go : goal.returns-in_err-turned-clause-go
+returns-in_err-turned-clause-go g c =
+    let p = err_from_is_err_and c.from_residual-in_err-turned.result c.from_residual-in_err-turned.ensures.1 in
+    rw (p.1) tt
+
+pub returns-in_err-turned-clause-blocked : goal.returns-in_err-turned-clause-blocked
+returns-in_err-turned-clause-blocked g c =
+    let p = err_from_is_err_and c.from_residual-in_err-turned.result c.from_residual-in_err-turned.ensures.1 in
+    rw (p.1) tt
+
+pub returns-in_err-turned-clause-idle : goal.returns-in_err-turned-clause-idle
+returns-in_err-turned-clause-idle g c =
+    let p = err_from_is_err_and c.from_residual-in_err-turned.result c.from_residual-in_err-turned.ensures.1 in
+    rw (p.1) tt
+
+pub returns-in_err-reserve-clause-number : goal.returns-in_err-reserve-clause-number
+returns-in_err-reserve-clause-number g c = ap (λ (x : Tasked). x.number) c.self.view_is
+
+pub returns-in_err-reserve-clause-program : goal.returns-in_err-reserve-clause-program
+returns-in_err-reserve-clause-program g c =
+    c.reserve.ensures.same.program ∙ ap (λ (x : Tasked). x.task_state.program) c.self.view_is
+
+pub returns-in_err-turned-clause-number : goal.returns-in_err-turned-clause-number
+returns-in_err-turned-clause-number g c = ap (λ (x : Tasked). x.number) c.self.view_is
+
+pub returns-in_err-turned-clause-program : goal.returns-in_err-turned-clause-program
+returns-in_err-turned-clause-program g c =
+    c.reserve.ensures.same.program ∙ ap (λ (x : Tasked). x.task_state.program) c.self.view_is

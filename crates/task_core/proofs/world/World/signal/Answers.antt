@@ -1,5 +1,6 @@
 -- The semaphores keep their name and their callers.
 use Rattle.std.proofs.Common.{◌∙◌}
+use Rattle.std.proofs.lemmas.Result.{err_from_is_err_and}
 use Rattle.task_core.proofs.Shares.{with_sems}
 use Rattle.task_core.proofs.world.World.signal.Goals as goal
 
@@ -19,3 +20,8 @@ invariant_of-self-2 c =
     (c.signal.ensures.kept.0 ∙ c.reserve.ensures.list.name)
     (c.signal.ensures.kept.1 ∙ c.reserve.ensures.list.callers) in
     record { parts = x.0; spares = x.1 }
+
+pub returns-in_err-reserve-clause-told : goal.returns-in_err-reserve-clause-told
+returns-in_err-reserve-clause-told c =
+    let p = err_from_is_err_and c.from_residual.result c.from_residual.ensures.1 in
+    rw (p.1) tt
