@@ -1,5 +1,5 @@
 -- The lists after a deed, whatever its outcome.
-use Rattle.std.proofs.Common.{◌≡◌, ℕ, ◌++◌, List, length, Option, Some, None, refl, sym, ◌∙◌, ap}
+use Rattle.std.proofs.Common.{◌≡◌, ℕ, ◌++◌, List, length, Option, Some, None, refl, sym, ◌∙◌, ap, subst}
 use Rattle.std.specs.Prelude.{IfOk, OnErr, Result, Ok, Err}
 use Rattle.std.proofs.lemmas.List.{append-nil}
 use Rattle.grow_list.specs.Shown.{Passed}
@@ -13,7 +13,18 @@ use Rattle.inode_events.specs.declared.deed.Deed.{Deed}
 use Rattle.inode_events.specs.declared.told.Event.{Event}
 use Rattle.inode_events.specs.declared.told.Told.{Told}
 use Rattle.inode_meta.specs.declared.step.Who.{Who}
+use Rattle.task_state.specs.Steps.{deed_in}
+use Rattle.task_state.specs.declared.step.DueDeed.{DueDeed}
 use Rattle.task_steps.specs.Leaving.{Leaves, told_by, told_in}
+
+-- what the deed of one arm did, the due deed did
+pub acts_due : {E : Type 0} (old new : CellValue) (pass pass2 : Passed Event) (who : Who)
+    (r : Result (Option Told) E) {x y : DueDeed} → x ≡ y
+    → IfOk r (λ o. (list : List Entry) → Acts old new list list pass pass2 who (deed_in y) o)
+    → IfOk r (λ o. (list : List Entry) → Acts old new list list pass pass2 who (deed_in x) o)
+acts_due old new pass pass2 who r same acts =
+    subst (λ (d : DueDeed). IfOk r (λ o. (list : List Entry)
+    → Acts old new list list pass pass2 who (deed_in d) o)) (sym same) acts
 
 module _ (old new : CellValue) (list list2 : List Entry) (pass pass2 : Passed Event) (who : Who)
     (d : Deed) where

@@ -1,7 +1,7 @@
 //! Deeds that begin, continue or end a collection and don't consult the measurement list.
 
 ghost use Rattle.inode_events.specs.declared.deed.Deed.TheVariants as Deed;
-ghost use Rattle.std.specs.Prelude.{◌≡◌, ℕ, ◌+◌, List, Some, IfOk, OnErr};
+ghost use Rattle.std.specs.Prelude.{◌≡◌, ℕ, ◌+◌, List, IfOk, OnErr};
 ghost use Rattle.ima_templates.specs.declared.entry.Entry.{Entry as AnyEntry};
 ghost use Rattle.world_model.specs.inodes.Acts.{Acts, MayBy, Stays};
 ghost use Rattle.task_steps.specs.Hashed.{IsCollectingDeed};
@@ -27,21 +27,21 @@ fn chunk(
     who: Who,
     file: u64,
     hash_state: &mut HashState,
-) -> Result<Told, OutOfMemory>
+) -> Result<Option<Told>, OutOfMemory>
     requires name { pass.old.name ≡ cell.old.journal }
     requires number { pass.old.number ≡ who.task + 1 }
     requires may { MayBy cell.old pass.old.number (Deed.Chunk file) }
     requires hashes { HashesBefore cell.old.inode cell.old.list hash_state.old (Deed.Chunk file) }
-    ensures acts { IfOk result (λ t. (list : List AnyEntry) → Acts cell.old cell.new list list
-        pass.old pass.new who (Deed.Chunk file) (Some t)) }
-    ensures hashes { IfOk result (λ t. HashesTold cell.old.inode cell.new.list hash_state.old
-        hash_state.new (Deed.Chunk file) (Some t)) }
+    ensures acts { IfOk result (λ o. (list : List AnyEntry) → Acts cell.old cell.new list list
+        pass.old pass.new who (Deed.Chunk file) o) }
+    ensures hashes { IfOk result (λ o. HashesTold cell.old.inode cell.new.list hash_state.old
+        hash_state.new (Deed.Chunk file) o) }
     ensures err { OnErr result (Stays cell.old cell.new pass.old pass.new) }
     ensures kept { OnErr result (hash_state.new ≡ hash_state.old) }
 {
     let (piece, page) = cell.chunk(pass, who, file)?;
     gather(hash_state, piece, &page);
-    Ok(piece_told(piece))
+    Ok(Some(piece_told(piece)))
 }
 
 // Reads and hashes the next piece of a close's collection.
@@ -51,22 +51,22 @@ fn close_chunk(
     who: Who,
     file: u64,
     hash_state: &mut HashState,
-) -> Result<Told, OutOfMemory>
+) -> Result<Option<Told>, OutOfMemory>
     requires name { pass.old.name ≡ cell.old.journal }
     requires number { pass.old.number ≡ who.task + 1 }
     requires may { MayBy cell.old pass.old.number (Deed.CloseChunk file) }
     requires hashes { HashesBefore cell.old.inode cell.old.list hash_state.old
         (Deed.CloseChunk file) }
-    ensures acts { IfOk result (λ t. (list : List AnyEntry) → Acts cell.old cell.new list list
-        pass.old pass.new who (Deed.CloseChunk file) (Some t)) }
-    ensures hashes { IfOk result (λ t. HashesTold cell.old.inode cell.new.list hash_state.old
-        hash_state.new (Deed.CloseChunk file) (Some t)) }
+    ensures acts { IfOk result (λ o. (list : List AnyEntry) → Acts cell.old cell.new list list
+        pass.old pass.new who (Deed.CloseChunk file) o) }
+    ensures hashes { IfOk result (λ o. HashesTold cell.old.inode cell.new.list hash_state.old
+        hash_state.new (Deed.CloseChunk file) o) }
     ensures err { OnErr result (Stays cell.old cell.new pass.old pass.new) }
     ensures kept { OnErr result (hash_state.new ≡ hash_state.old) }
 {
     let (piece, page) = cell.close_chunk(pass, who, file)?;
     gather(hash_state, piece, &page);
-    Ok(piece_told(piece))
+    Ok(Some(piece_told(piece)))
 }
 
 // Begins a writer's close. `None` means that it is blocked.
@@ -104,20 +104,22 @@ fn close_finish(
     who: Who,
     file: u64,
     hash_state: &HashState,
-) -> Result<Told, OutOfMemory>
+) -> Result<Option<Told>, OutOfMemory>
     requires name { pass.old.name ≡ cell.old.journal }
     requires number { pass.old.number ≡ who.task + 1 }
     requires may { MayBy cell.old pass.old.number (Deed.CloseFinish file) }
     requires hashes { HashesBefore cell.old.inode cell.old.list hash_state.now
         (Deed.CloseFinish file) }
-    ensures acts { IfOk result (λ t. (list : List AnyEntry) → Acts cell.old cell.new list list
-        pass.old pass.new who (Deed.CloseFinish file) (Some t)) }
+    ensures acts { IfOk result (λ o. (list : List AnyEntry) → Acts cell.old cell.new list list
+        pass.old pass.new who (Deed.CloseFinish file) o) }
+    ensures hashes { IfOk result (λ o. HashesTold cell.old.inode cell.new.list hash_state.now
+        hash_state.now (Deed.CloseFinish file) o) }
     ensures err { OnErr result (Stays cell.old cell.new pass.old pass.new) }
 {
     let Some(sums) = sums(hash_state) else {
         unreachable!()
     };
-    Ok(finished_told(cell.close_finish(pass, who, file, sums)?))
+    Ok(Some(finished_told(cell.close_finish(pass, who, file, sums)?)))
 }
 
 /// Does a deed that begins, continues or ends a collection. `None` means that it is blocked.
@@ -141,10 +143,10 @@ pub fn collect(
     ensures kept { OnErr result (hash_state.new ≡ hash_state.old) }
 {
     match due {
-        DueDeed::Chunk(file) => Ok(Some(chunk(cell, pass, who, file, hash_state)?)),
+        DueDeed::Chunk(file) => chunk(cell, pass, who, file, hash_state),
         DueDeed::CloseTake(file) => close_take(cell, pass, who, file, hash_state),
-        DueDeed::CloseChunk(file) => Ok(Some(close_chunk(cell, pass, who, file, hash_state)?)),
-        DueDeed::CloseFinish(file) => Ok(Some(close_finish(cell, pass, who, file, hash_state)?)),
+        DueDeed::CloseChunk(file) => close_chunk(cell, pass, who, file, hash_state),
+        DueDeed::CloseFinish(file) => close_finish(cell, pass, who, file, hash_state),
         _ => unreachable!(),
     }
 }

@@ -119,10 +119,7 @@ fn dispatch(
                 hash_state,
             )
         }
-        DueDeed::Finish(file) => match listed::finish(cell, pass, who, file, book, hash_state) {
-            Ok(told) => Ok(Some(told)),
-            Err(err) => Err(err),
-        },
+        DueDeed::Finish(file) => listed::finish(cell, pass, who, file, book, hash_state),
         _ => dispatch_alone(cell, pass, actor, due, hash_state),
     }
 }

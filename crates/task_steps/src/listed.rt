@@ -68,14 +68,16 @@ pub fn finish(
     file: u64,
     book: &mut Book,
     hash_state: &HashState,
-) -> Result<Told, OutOfMemory>
+) -> Result<Option<Told>, OutOfMemory>
     requires name { pass.old.name ≡ cell.old.journal }
     requires number { pass.old.number ≡ who.task + 1 }
     requires book_name { cell.old.book ≡ book.old.name }
     requires may { MayBy cell.old pass.old.number (Deed.Finish file) }
     requires hashes { HashesBefore cell.old.inode cell.old.list hash_state.now (Deed.Finish file) }
-    ensures acts { IfOk result (λ t. Acts cell.old cell.new book.old.list book.new.list
-        pass.old pass.new who (Deed.Finish file) (Some t)) }
+    ensures acts { IfOk result (λ o. Acts cell.old cell.new book.old.list book.new.list
+        pass.old pass.new who (Deed.Finish file) o) }
+    ensures hashes { IfOk result (λ o. HashesTold cell.old.inode cell.new.list hash_state.now
+        hash_state.now (Deed.Finish file) o) }
     ensures book { (book.new.name ≡ book.old.name) × (book.new.callers ≡ book.old.callers) }
     ensures err { OnErr result (Stays cell.old cell.new pass.old pass.new) }
     ensures err_book { OnErr result (book.new.list ≡ book.old.list) }
@@ -83,7 +85,7 @@ pub fn finish(
     let Some(sums) = sums(hash_state) else {
         unreachable!()
     };
-    Ok(Told::Grant(cell.finish(pass, who, file, sums, book)?))
+    Ok(Some(Told::Grant(cell.finish(pass, who, file, sums, book)?)))
 }
 
 /// The arguments of a check.

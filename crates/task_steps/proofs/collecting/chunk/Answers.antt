@@ -1,4 +1,5 @@
 use Rattle.std.proofs.Common.{[], Some, sym, subst}
+use Rattle.std.proofs.lemmas.Result.{err_from_is_err_and}
 use Rattle.world_model.specs.inodes.Acts.{Acts}
 use Rattle.inode_events.specs.declared.deed.Deed.TheVariants as deed
 use Rattle.inode_events.specs.declared.told.Told.{Told}
@@ -22,3 +23,13 @@ returns-clause-hashes c =
     c.requires.hashes c.in_ok-piece.ensures.page c.args.file c.args.who c.chunk.new.self.list
     c.in_ok-piece.piece
     (c.in_ok-piece.ensures.acts []).journal c.gather.ensures)
+
+pub returns-in_err-piece-clause-acts : goal.returns-in_err-piece-clause-acts
+returns-in_err-piece-clause-acts c =
+    let p = err_from_is_err_and c.from_residual.result c.from_residual.ensures.1 in
+    rw (p.1) tt
+
+pub returns-in_err-piece-clause-hashes : goal.returns-in_err-piece-clause-hashes
+returns-in_err-piece-clause-hashes c =
+    let p = err_from_is_err_and c.from_residual.result c.from_residual.ensures.1 in
+    rw (p.1) tt

@@ -1,4 +1,5 @@
 use Rattle.std.proofs.Common.{subst}
+use Rattle.std.proofs.lemmas.Result.{err_from_is_err_and}
 use Rattle.world_model.specs.inodes.Acts.{Acts}
 use Rattle.inode_events.specs.declared.deed.Deed.TheVariants as deed
 use Rattle.world_model.specs.inodes.answers.Answers.{BeginsBy, taken_told}
@@ -19,3 +20,13 @@ returns-in-Begun-clause-hashes c =
     (chosen_algo c.args.cell.now.inode (newest_first c.args.cell.now.list))
     x) c.in-Begun.is c.in_ok-algo.ensures.algo)
     c.begin.ensures
+
+pub returns-in_err-algo-clause-acts : goal.returns-in_err-algo-clause-acts
+returns-in_err-algo-clause-acts c =
+    let p = err_from_is_err_and c.from_residual.result c.from_residual.ensures.1 in
+    rw (p.1) tt
+
+pub returns-in_err-algo-clause-hashes : goal.returns-in_err-algo-clause-hashes
+returns-in_err-algo-clause-hashes c =
+    let p = err_from_is_err_and c.from_residual.result c.from_residual.ensures.1 in
+    rw (p.1) tt

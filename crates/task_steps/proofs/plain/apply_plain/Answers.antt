@@ -1,5 +1,6 @@
 use Rattle.std.proofs.Common.{ℕ, List, Option, Some, sym, subst}
-use Rattle.world_model.specs.inodes.Acts.{Acts}
+use Rattle.std.proofs.lemmas.Result.{err_from_is_err_and}
+use Rattle.world_model.specs.inodes.Acts.{Acts, MayBy}
 use Rattle.inode_events.specs.declared.deed.Deed.TheVariants as deed
 use Rattle.inode_events.specs.declared.told.Told.{Told}
 use Rattle.std.specs.Prelude.{IfOk}
@@ -70,3 +71,85 @@ returns-in_ok-close_read-in-Close-clause-acts c =
     λ list. subst (λ (x : DueDeed). Acts c.args.cell.now c.close_read.new.self list list
     c.args.pass.now c.close_read.new.pass c.args.who (deed_in x) (Some told.Dropped))
     (sym c.in-Close.is) (c.in_ok-close_read-in-Close.ensures.acts list)
+
+pub returns-in_err-count-in-Count-clause-acts : goal.returns-in_err-count-in-Count-clause-acts
+returns-in_err-count-in-Count-clause-acts c =
+    let p = err_from_is_err_and c.from_residual.result c.from_residual.ensures.1 in
+    rw (p.1) tt
+
+pub returns-in_err-got-in-Read-clause-acts : goal.returns-in_err-got-in-Read-clause-acts
+returns-in_err-got-in-Read-clause-acts c =
+    let p = err_from_is_err_and c.from_residual-in_err-got-in-Read.result c.from_residual-in_err-got-in-Read.ensures.1 in
+    rw (p.1) tt
+
+pub returns-in_err-write-in-Write-clause-acts : goal.returns-in_err-write-in-Write-clause-acts
+returns-in_err-write-in-Write-clause-acts c =
+    let p = err_from_is_err_and c.from_residual-in_err-write-in-Write.result c.from_residual-in_err-write-in-Write.ensures.1 in
+    rw (p.1) tt
+
+pub returns-in_err-trunc-in-Trunc-clause-acts : goal.returns-in_err-trunc-in-Trunc-clause-acts
+returns-in_err-trunc-in-Trunc-clause-acts c =
+    let p = err_from_is_err_and c.from_residual-in_err-trunc-in-Trunc.result c.from_residual-in_err-trunc-in-Trunc.ensures.1 in
+    rw (p.1) tt
+
+pub returns-in_err-set_meta-in-SetMeta-clause-acts : goal.returns-in_err-set_meta-in-SetMeta-clause-acts
+returns-in_err-set_meta-in-SetMeta-clause-acts c =
+    let p = err_from_is_err_and c.from_residual-in_err-set_meta-in-SetMeta.result c.from_residual-in_err-set_meta-in-SetMeta.ensures.1 in
+    rw (p.1) tt
+
+pub returns-in_err-close_read-in-Close-clause-acts : goal.returns-in_err-close_read-in-Close-clause-acts
+returns-in_err-close_read-in-Close-clause-acts c =
+    let p = err_from_is_err_and c.from_residual-in_err-close_read-in-Close.result c.from_residual-in_err-close_read-in-Close.ensures.1 in
+    rw (p.1) tt
+
+pub read-requires-clause-may : goal.read-requires-clause-may
+read-requires-clause-may c =
+    subst (λ (x : DueDeed). MayBy c.args.cell.now c.args.pass.now.number (deed_in x)) c.in-Read.is
+    c.requires.may
+
+pub trunc-requires-clause-may : goal.trunc-requires-clause-may
+trunc-requires-clause-may c =
+    subst (λ (x : DueDeed). MayBy c.args.cell.now c.args.pass.now.number (deed_in x)) c.in-Trunc.is
+    c.requires.may
+
+pub close_read-requires-clause-may : goal.close_read-requires-clause-may
+close_read-requires-clause-may c =
+    subst (λ (x : DueDeed). MayBy c.args.cell.now c.args.pass.now.number (deed_in x)) c.in-Close.is
+    c.requires.may
+
+pub write-requires-clause-may : goal.write-requires-clause-may
+write-requires-clause-may c =
+    subst (λ (b : List ℕ). MayBy c.args.cell.now c.args.pass.now.number
+    (deed.Write c.in-Write.file c.in-Write.from b)) (sym c.as_slice.ensures.bytes)
+    (subst (λ (x : DueDeed). MayBy c.args.cell.now c.args.pass.now.number (deed_in x))
+    c.in-Write.is c.requires.may)
+
+pub returns-in_err-count-in-Count-clause-err : goal.returns-in_err-count-in-Count-clause-err
+returns-in_err-count-in-Count-clause-err c =
+    let p = err_from_is_err_and c.from_residual.result c.from_residual.ensures.1 in
+    rw (p.1) c.in_err-count-in-Count.ensures.err
+
+pub returns-in_err-got-in-Read-clause-err : goal.returns-in_err-got-in-Read-clause-err
+returns-in_err-got-in-Read-clause-err c =
+    let p = err_from_is_err_and c.from_residual-in_err-got-in-Read.result c.from_residual-in_err-got-in-Read.ensures.1 in
+    rw (p.1) c.in_err-got-in-Read.ensures.err
+
+pub returns-in_err-write-in-Write-clause-err : goal.returns-in_err-write-in-Write-clause-err
+returns-in_err-write-in-Write-clause-err c =
+    let p = err_from_is_err_and c.from_residual-in_err-write-in-Write.result c.from_residual-in_err-write-in-Write.ensures.1 in
+    rw (p.1) c.in_err-write-in-Write.ensures.err
+
+pub returns-in_err-trunc-in-Trunc-clause-err : goal.returns-in_err-trunc-in-Trunc-clause-err
+returns-in_err-trunc-in-Trunc-clause-err c =
+    let p = err_from_is_err_and c.from_residual-in_err-trunc-in-Trunc.result c.from_residual-in_err-trunc-in-Trunc.ensures.1 in
+    rw (p.1) c.in_err-trunc-in-Trunc.ensures.err
+
+pub returns-in_err-set_meta-in-SetMeta-clause-err : goal.returns-in_err-set_meta-in-SetMeta-clause-err
+returns-in_err-set_meta-in-SetMeta-clause-err c =
+    let p = err_from_is_err_and c.from_residual-in_err-set_meta-in-SetMeta.result c.from_residual-in_err-set_meta-in-SetMeta.ensures.1 in
+    rw (p.1) c.in_err-set_meta-in-SetMeta.ensures.err
+
+pub returns-in_err-close_read-in-Close-clause-err : goal.returns-in_err-close_read-in-Close-clause-err
+returns-in_err-close_read-in-Close-clause-err c =
+    let p = err_from_is_err_and c.from_residual-in_err-close_read-in-Close.result c.from_residual-in_err-close_read-in-Close.ensures.1 in
+    rw (p.1) c.in_err-close_read-in-Close.ensures.err

@@ -1,4 +1,5 @@
 use Rattle.std.proofs.Common.{ℕ, List, Option, Some, sym, ◌∙◌, ap, subst}
+use Rattle.std.proofs.lemmas.Result.{err_from_is_err_and}
 use Rattle.world_model.specs.inodes.Acts.{Acts}
 use Rattle.inode_events.specs.declared.deed.Deed.TheVariants as deed
 use Rattle.inode_events.specs.declared.told.Told.{Told}
@@ -27,3 +28,8 @@ returns-clause-acts c =
       | in-None w ↦ ap option_copied w.value-is ∙ sym w.in-None.is ∙ c.get.ensures
     ])
     (c.in_ok-set_attr.ensures.acts list)))
+
+pub returns-in_err-set_attr-clause-acts : goal.returns-in_err-set_attr-clause-acts
+returns-in_err-set_attr-clause-acts c =
+    let p = err_from_is_err_and c.from_residual.result c.from_residual.ensures.1 in
+    rw (p.1) tt
