@@ -1,13 +1,13 @@
 -- Passes over the tasks of one part.
 use Rattle.std.proofs.Common.{◌≡◌, ◌+◌, ◌-◌, ◌*◌, ◌^◌, ◌<◌, ◌≤◌, min, ◌⊎◌, ℕ, zero, suc, Bool, true, false, inl, inr, List, [], ◌∷◌, ◌++◌, length, Option, Some, None, add-one, refl, sym, ◌∙◌, ap, subst, arith}
-use Rattle.std.specs.Prelude.{◌||◌, slice_get}
+use Rattle.std.specs.Prelude.{◌||◌, All, slice_get}
 use Rattle.std.specs.List.{list_any}
 use Rattle.std.proofs.Math.Bool.{or-false, or_comm}
 use Rattle.std.proofs.Math.Nat.{add-mul, mul-le-mul_right, one-mul, suc-mul}
 use Rattle.std.proofs.lemmas.Bool.{cases_lt}
 use Rattle.std.proofs.lemmas.Grind.{flat_map-append}
 use Rattle.std.proofs.lemmas.List.{append-nil, length-append, length-set}
-use Rattle.std.proofs.lemmas.List.Elements.{All-append, All-cons, All-nil}
+use Rattle.std.proofs.lemmas.List.Elements.{All-append, All-cons, All-head, All-nil, All-tail}
 use Rattle.std.proofs.lemmas.List.Folds.{list_any-append}
 use Rattle.std.proofs.lemmas.Option.{same_Some, slice_get_past}
 use Rattle.run_model.specs.Rounds.{is_moved}
@@ -194,6 +194,14 @@ over_alone consts count size old new one most over = record {
 } where
   short : length old ≤ size
   short = omega (arith, most, ap (λ (n : ℕ). n * size) one ∙ one-mul size)
+
+-- what holds of all elements holds of those of both halves
+pub all_both : {A : Type 0} (P : A → Type 0) (xs ys : List A) → All P (xs ++ ys)
+    → All P xs × All P ys
+all_both P [] ys all = (All-nil P, all)
+all_both P (x ∷ xs) ys all =
+    let rest = all_both P xs ys (All-tail P x (xs ++ ys) all) in
+    (All-cons P x xs (All-head P x (xs ++ ys) all) rest.0, rest.1)
 
 -- both halves have few enough parts
 pub halves_fit : (low count size m cut front back len : ℕ) → low ≤ count

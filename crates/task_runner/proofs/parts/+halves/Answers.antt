@@ -1,9 +1,10 @@
 -- Both halves have few enough parts, and the parts of the halves are those of all tasks.
 use Rattle.std.proofs.Common.{◌-◌, ◌/◌, ◌++◌, List, length, sym, subst, arith}
 use Rattle.std.proofs.lemmas.Result.{err_from_is_err_and, on_ok_weaker}
-use Rattle.task_core.specs.worlds.Tasks.{Tasked}
+use Rattle.std.specs.Prelude.{All}
+use Rattle.task_core.specs.worlds.Tasks.{IsTask, Tasked}
 use Rattle.task_runner.proofs.Going.{gone_both}
-use Rattle.task_runner.proofs.Passing.{halves_fit, over_alone, over_both}
+use Rattle.task_runner.proofs.Passing.{all_both, halves_fit, over_alone, over_both}
 use Rattle.task_runner.specs.Parts.{HaveGone}
 use Rattle.task_runner.specs.Passes.{AreOver}
 use Rattle.task_runner.proofs.parts.+halves.Goals as goal
@@ -23,6 +24,13 @@ run_halves-run_both-requires-clause-most g t c κs within =
     (length c.args.tasks.now) (omega arith) c.saturating_mul.ensures c.min-cut.ensures
     c.split_at_mut-front.ensures.front_len c.split_at_mut-front.ensures.back_len c.requires.most
     (omega arith)
+
+pub run_halves-run_both-requires-clause-tasks : goal.run_halves-run_both-requires-clause-tasks
+run_halves-run_both-requires-clause-tasks g t c κs within =
+    all_both (IsTask g.N.Name.consts) c.split_at_mut-front.result.0.now
+    c.split_at_mut-front.result.1.now
+    (subst (λ (l : List Tasked). All (IsTask g.N.Name.consts) l)
+    c.split_at_mut-front.ensures.value c.requires.tasks)
 
 pub run_halves-returns-clause-gone : goal.run_halves-returns-clause-gone
 run_halves-returns-clause-gone g t c =
