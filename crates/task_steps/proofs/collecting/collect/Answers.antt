@@ -1,3 +1,7 @@
+use Rattle.std.proofs.Common.{subst}
+use Rattle.task_state.specs.Steps.{deed_in}
+use Rattle.task_state.specs.declared.step.DueDeed.{DueDeed}
+use Rattle.world_model.specs.inodes.Acts.{MayBy}
 use Rattle.task_steps.proofs.Leaving.{acts_due}
 use Rattle.task_steps.proofs.collecting.collect.Goals as goal
 
@@ -20,3 +24,23 @@ pub returns-in-CloseFinish-clause-acts : goal.returns-in-CloseFinish-clause-acts
 returns-in-CloseFinish-clause-acts c =
     acts_due c.args.cell.now c.close_finish.new.cell c.args.pass.now c.close_finish.new.pass
     c.args.who c.close_finish.result c.in-CloseFinish.is c.close_finish.ensures.acts
+
+pub chunk-requires-clause-may : goal.chunk-requires-clause-may
+chunk-requires-clause-may c =
+    subst (λ (x : DueDeed). MayBy c.args.cell.now c.args.pass.now.number (deed_in x)) c.in-Chunk.is
+    c.requires.may
+
+pub close_take-requires-clause-may : goal.close_take-requires-clause-may
+close_take-requires-clause-may c =
+    subst (λ (x : DueDeed). MayBy c.args.cell.now c.args.pass.now.number (deed_in x)) c.in-CloseTake.is
+    c.requires.may
+
+pub close_chunk-requires-clause-may : goal.close_chunk-requires-clause-may
+close_chunk-requires-clause-may c =
+    subst (λ (x : DueDeed). MayBy c.args.cell.now c.args.pass.now.number (deed_in x)) c.in-CloseChunk.is
+    c.requires.may
+
+pub close_finish-requires-clause-may : goal.close_finish-requires-clause-may
+close_finish-requires-clause-may c =
+    subst (λ (x : DueDeed). MayBy c.args.cell.now c.args.pass.now.number (deed_in x)) c.in-CloseFinish.is
+    c.requires.may
