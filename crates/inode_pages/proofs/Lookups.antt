@@ -1,6 +1,7 @@
 -- The element at an index of a list that is put together from parts.
-use Rattle.std.proofs.Common.{◌≡◌, ℕ, zero, suc, ◌+◌, ◌<◌, List, [], ◌∷◌, ◌++◌, length, take, drop, refl, ap, ◌∙◌, arith}
+use Rattle.std.proofs.Common.{◌≡◌, ℕ, zero, suc, ◌+◌, ◌<◌, ◌≤◌, ⊎_elim, List, [], ◌∷◌, ◌++◌, length, take, drop, Some, refl, sym, ap, ◌∙◌, arith}
 use Rattle.std.specs.Prelude.{slice_get}
+use Rattle.std.proofs.lemmas.Bool.{cases_lt}
 
 module _ {X : Type 0} where
   -- an element of the first part
@@ -32,3 +33,19 @@ module _ {X : Type 0} where
   get-take (suc n) [] k within = refl
   get-take (suc n) (x ∷ xs) zero within = refl
   get-take (suc n) (x ∷ xs) (suc k) within = get-take n xs k (omega arith)
+
+  -- if the first n elements are those of f, and so is one more, then all are
+  pub get-push : (f : ℕ → X) (xs ys : List X) (x : X) (n : ℕ) → ys ≡ xs ++ x ∷ [] → length xs ≡ n
+      → x ≡ f n → ((j : ℕ) → j < n → slice_get xs j ≡ Some (f j)) → (j : ℕ) → j < n + 1
+      → slice_get ys j ≡ Some (f j)
+  get-push f xs ys x n is long more each j below =
+      ap (λ (l : List X). slice_get l j) is
+      ∙ ⊎_elim
+      (λ (before : j < n).
+      get-append_left xs (x ∷ []) j (omega (arith, long, before)) ∙ each j before)
+      (λ (last : n ≤ j).
+      let at : length xs + 0 ≡ j = omega (arith, long, last, below) in
+      let here : n ≡ j = omega (arith, last, below) in
+      ap (slice_get (xs ++ x ∷ [])) (sym at) ∙ get-append_right xs (x ∷ []) 0 ∙ ap Some more
+      ∙ ap (λ m. Some (f m)) here)
+      (cases_lt j n)
