@@ -7,7 +7,7 @@ ghost use Rattle.xattr_store.specs.Names.{evm_name, ima_name};
 use crate::bytes::Bytes;
 use crate::changes::NewValue;
 use crate::names::{EVM_NAME, IMA_NAME};
-use crate::places::{change_within, find, put_value, value_in};
+use crate::places::{change_within, copy_of, find, put_value, value_in};
 use std::alloc::{AllocError as OutOfMemory, Global};
 use std::marker::Model;
 
@@ -184,9 +184,7 @@ impl Attrs {
         let alloc = *self.pairs.allocator();
         let mut pairs = Vec::with_capacity(alloc, self.pairs.len())?;
         for pair in self.pairs.iter() {
-            let name = Bytes::from_slice(alloc, pair.0.as_slice())?;
-            let value = Bytes::from_slice(alloc, pair.1.as_slice())?;
-            pairs.push((name, value))?;
+            pairs.push(copy_of(alloc, pair)?)?;
         }
         Ok(Attrs { pairs })
     }

@@ -1,13 +1,13 @@
 // The index of a name in a list of pairs in ascending order of names, or the index at which to
 // insert it.
 
-ghost use Rattle.std.specs.Prelude.{◌≡◌, ◌+◌, ◌<◌, ◌≤◌, MatchResult, if◌then◌else◌, is_ok, vec_capacity, vec_len};
+ghost use Rattle.std.specs.Prelude.{◌≡◌, ◌+◌, ◌<◌, ◌≤◌, IfOk, MatchResult, if◌then◌else◌, is_ok, vec_capacity, vec_len};
 ghost use Rattle.xattr_store.specs.Attrs.{IsAttrs, changed, put, value};
 ghost use Rattle.std.specs.Option.{option_copied};
 ghost use Rattle.xattr_store.specs.Places.{IsFoundAt, IsGapAt};
 
 use crate::bytes::Bytes;
-use std::alloc::AllocError as OutOfMemory;
+use std::alloc::{AllocError as OutOfMemory, Global};
 use std::cmp::Ordering;
 
 // `Ok` with the index of the name, or `Err` with the index at which it is to be inserted.
@@ -97,4 +97,13 @@ pub fn change_within(pairs: &mut Vec<(Bytes, Bytes)>, name: Bytes, value: Option
             }
         }
     }
+}
+
+// A copy of the pair, in its own memory.
+pub fn copy_of(alloc: Global, pair: &(Bytes, Bytes)) -> Result<(Bytes, Bytes), OutOfMemory>
+    ensures { IfOk result (λ copy. copy ≡ pair.now) }
+{
+    let name = Bytes::from_slice(alloc, pair.0.as_slice())?;
+    let value = Bytes::from_slice(alloc, pair.1.as_slice())?;
+    Ok((name, value))
 }
