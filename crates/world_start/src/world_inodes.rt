@@ -1,5 +1,5 @@
 // The inodes of a new world.
-ghost use Rattle.std.specs.Prelude.{◌≡◌, ℕ, ◌+◌, ◌<◌, ◌^◌, [], All, IfOk, List, length, Some, slice_get};
+ghost use Rattle.std.specs.Prelude.{◌≡◌, ℕ, ◌+◌, ◌<◌, ◌^◌, [], ◌∷◌, ◌++◌, All, IfOk, OnOk, List, length, Some, slice_get};
 ghost use Rattle.grow_list.specs.Shown.{Passed};
 ghost use Rattle.ima_templates.specs.declared.entry.Entry.{Entry as AnyEntry};
 ghost use Rattle.inode_events.specs.declared.told.Event.{Event as AnyEvent};
@@ -7,33 +7,35 @@ ghost use Rattle.world_start.specs.Started.{AreRows, AreStarted, IsFile, IsStart
 
 use crate::rows::{Row, share_out};
 use crate::seats::{Seat, Seats};
-use grow_list::Pass;
-use inode_events::{Event, Image, Settings};
+use inode_events::{Image, Settings};
 use std::alloc::{AllocError as OutOfMemory, Global};
 use std::collections::VecDeque;
 use world_close::worlds::WorldInode;
 use world_close::worlds::inodes::InodeCell;
 use xattr_store::Bytes;
 
-// Starts one inode, and the passes of its journal.
+// Starts one inode, and gives each row its pass of the inode's journal.
 fn start_world_inode(
     alloc: Global,
     file: (Bytes, Image),
     settings: &Settings,
     tasks: u32,
     seat: Seat,
-) -> Result<(WorldInode, Vec<Pass<Event>>), OutOfMemory>
+    rows: &mut Vec<Row>,
+) -> Result<WorldInode, OutOfMemory>
     requires file { IsFile file }
     requires tasks { tasks + 1 < 2 ^ 32 }
     requires listed { seat.listed.mine ≡ [] }
-    ensures world_inode { IfOk result (λ r. IsStarted settings.now tasks r.0) }
-    ensures file { IfOk result (λ r. file_of r.0 ≡ file) }
-    ensures place { IfOk result (λ r. r.0.place ≡ seat.place) }
-    ensures listed { IfOk result (λ r. list_pass_of r.0 ≡ named_by seat.listed) }
-    ensures counted { IfOk result (λ r. r.0.rules ≡ seat.counted) }
-    ensures count { IfOk result (λ r. length r.1.items ≡ tasks) }
-    ensures passes { IfOk result (λ r. (k : ℕ) → k < tasks
-        → slice_get r.1.items k ≡ Some (pass_of r.0 k)) }
+    requires rows { length rows.old.items ≡ tasks }
+    ensures world_inode { IfOk result (λ r. IsStarted settings.now tasks r) }
+    ensures file { IfOk result (λ r. file_of r ≡ file) }
+    ensures place { IfOk result (λ r. r.place ≡ seat.place) }
+    ensures listed { IfOk result (λ r. list_pass_of r ≡ named_by seat.listed) }
+    ensures counted { IfOk result (λ r. r.rules ≡ seat.counted) }
+    ensures count { OnOk result (length rows.new.items ≡ length rows.old.items) }
+    ensures given { IfOk result (λ r. (k : ℕ) (row : List (Passed AnyEvent))
+        → slice_get rows.old.items k ≡ Some row
+        → slice_get rows.new.items k ≡ Some (row ++ pass_of r k ∷ [])) }
 {
     let (path, image) = file;
     let Seat {
@@ -48,7 +50,8 @@ fn start_world_inode(
         rules: counted,
         place,
     };
-    Ok((world_inode, passes))
+    share_out(rows, &world_inode, VecDeque::from(passes))?;
+    Ok(world_inode)
 }
 
 // Starts all inodes, in order, and a row of passes for each task.
@@ -75,8 +78,7 @@ pub(crate) fn start_world_inodes(
     let mut rows = empty_rows(alloc, tasks)?;
     while let Some(file) = left.pop_front() {
         let seat = seats.next();
-        let (world_inode, column) = start_world_inode(alloc, file, settings, tasks, seat)?;
-        share_out(&mut rows, &world_inode, VecDeque::from(column))?;
+        let world_inode = start_world_inode(alloc, file, settings, tasks, seat, &mut rows)?;
         world_inodes.push(world_inode)?;
     }
     Ok((world_inodes, rows))

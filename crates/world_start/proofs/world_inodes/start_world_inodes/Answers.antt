@@ -46,9 +46,9 @@ loop-file-preserved c =
           e.world_inode
           e.file e.place e.listed e.counted old.before);
       rows = subst (λ (l : List WorldInodeValue). AreRows l c.args.tasks
-          c.share_out.new.rows.items) (sym c.in_ok-push.ensures.items)
-          (rows_more world_inodes s c.args.tasks c.loop-file.rows.items c.share_out.new.rows.items
-          old.rows c.in_ok-share_out.ensures.count c.in_ok-share_out.ensures.given);
+          c.start_world_inode.new.rows.items) (sym c.in_ok-push.ensures.items)
+          (rows_more world_inodes s c.args.tasks c.loop-file.rows.items
+          c.start_world_inode.new.rows.items old.rows e.count e.given);
     }
 
 pub start_world_inode-requires-clause-file : goal.start_world_inode-requires-clause-file
