@@ -53,6 +53,16 @@ pub record AreMade (blocks rest : List TaskBlock) (passes left : List PassesValu
       → (block : TaskBlock) → slice_get blocks k ≡ Some block
       → (own : PassesValue) → slice_get passes k ≡ Some own → IsNew k block own t
 
+-- no task is made at first
+pub none_made : (blocks : List TaskBlock) (passes : List PassesValue)
+    → AreMade blocks blocks passes passes []
+none_made blocks passes = record {
+  left_is = refl;
+  rest_is = refl;
+  within = omega arith;
+  each = λ k t at block is_block own is_own. absurd (cc at);
+}
+
 -- with a new task at the end, each task is the new one of its block and passes
 one : (blocks : List TaskBlock) (passes : List PassesValue) (tasks : List Tasked)
     (block : TaskBlock) (own : PassesValue) (t : Tasked)

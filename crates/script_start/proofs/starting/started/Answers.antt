@@ -1,5 +1,7 @@
-use Rattle.std.proofs.Common.{◌≡◌, ℕ, ◌<◌, All, List, length, map, sym, subst, rules}
+use Rattle.std.proofs.Common.{◌≡◌, ℕ, ◌<◌, ◌∙◌, All, List, ap, arith, length, map, sym, subst, rules}
+use Rattle.std.proofs.lemmas.List.{length-map}
 use Rattle.std.proofs.lemmas.List.Elements.{All-from_recursion}
+use Rattle.std.proofs.lemmas.Result.{err_from_is_err_and}
 use Rattle.run_model.specs.events.declared.image.Image.{Image}
 use Rattle.policy_rules.specs.declared.access.Super.{Super}
 use Rattle.task_core.specs.starts.Started.{IsFile}
@@ -23,6 +25,55 @@ start-requires-clause-places c =
     (λ i. (sym parts.places i, sym parts.supers i))
     (All-from_recursion (λ place. place < length s.supers) (map fs_of s.files)
     (places_fit s.supers s.files c.keeps.ensures.files.each))
+
+pub start-requires-clause-even : goal.start-requires-clause-even
+start-requires-clause-even c =
+    let files = c.args.script.files in
+    let parts = c.in_ok-settings.ensures in
+    ap length parts.places ∙ length-map files fs_of
+    ∙ sym (ap length parts.inodes ∙ length-map files file_of)
+
+pub start-requires-clause-callers : goal.start-requires-clause-callers
+start-requires-clause-callers c =
+    let parts = c.in_ok-settings.ensures in
+    omega (
+      arith,
+      ap length parts.inodes ∙ length-map c.args.script.files file_of,
+      ap length parts.tasks,
+      c.keeps.ensures.files.few,
+      c.keeps.ensures.tasks.few,
+      c.len-count.ensures,
+      c.in_ok-settings.field-0.tasks.ok,
+    )
+
+pub new_tasks-requires : goal.new_tasks-requires
+new_tasks-requires c = record {
+  even = omega (
+    arith,
+    c.in_ok-world.ensures.passes.count ∙ c.in_ok-world.ensures.consts.tasks,
+    c.len-count.ensures,
+    c.in_ok-settings.field-0.tasks.ok,
+    ap length c.in_ok-settings.ensures.tasks,
+    c.keeps.ensures.tasks.few,
+  );
+  few = omega (arith, ap length c.in_ok-settings.ensures.tasks, c.keeps.ensures.tasks.few);
+}
+
+pub returns-in_err-settings : goal.returns-in_err-settings
+returns-in_err-settings c =
+    let p = err_from_is_err_and c.from_residual.result c.from_residual.ensures.1 in rw p.1 tt
+
+pub returns-in_err-world : goal.returns-in_err-world
+returns-in_err-world c =
+    let p = err_from_is_err_and c.from_residual-in_err-world.result
+    c.from_residual-in_err-world.ensures.1 in
+    rw p.1 tt
+
+pub returns-in_err-tasks : goal.returns-in_err-tasks
+returns-in_err-tasks c =
+    let p = err_from_is_err_and c.from_residual-in_err-tasks.result
+    c.from_residual-in_err-tasks.ensures.1 in
+    rw p.1 tt
 
 pub returns : goal.returns
 returns c =
