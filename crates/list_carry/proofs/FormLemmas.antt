@@ -4,7 +4,7 @@ use Rattle.std.proofs.lemmas.Bool.{and_from, and_left, and_parts, and_right, lt-
 use Rattle.std.proofs.lemmas.List.{take_at, take_more, take_rest, take-take, length-take, length-take-le, drop-drop, take-append-drop}
 use Rattle.std.proofs.lemmas.List.Concat.{flat_map-append}
 use Rattle.std.proofs.lemmas.Option.{none-some, same_Some}
-use Rattle.std.specs.Prelude.{IfOk, SomeIff}
+use Rattle.std.specs.Prelude.{IfOk, OnErr, OnOk, SomeIff}
 use Rattle.std.specs.Str.{bytes_eq}
 use lib.Pointwise.{bytes_decides}
 use Rattle.byteorder.specs.Endian.{little_bytes, little_number}
@@ -30,6 +30,26 @@ unfolding sized
 appended_sized o grown whole bytes n first second count =
     second ∙ (λ i. first i ++ bytes) ∙ append_assoc o (little_bytes 4 n) bytes
     ∙ ap (λ (k : ℕ). o ++ (little_bytes 4 k ++ bytes)) count
+
+-- two lists are appended
+pub appended_both : (o a b grown whole : List ℕ) → grown ≡ o ++ a → whole ≡ grown ++ b
+    → whole ≡ o ++ (a ++ b)
+appended_both o a b grown whole first second =
+    second ∙ (λ i. first i ++ b) ∙ append_assoc o a b
+
+-- appended bytes don't change what was there before them
+pub kept_appended : (k : ℕ) (o a whole : List ℕ) → length o ≡ k → whole ≡ o ++ a
+    → take k whole ≡ o
+kept_appended k o a whole long is = ap (take k) is ∙ take_at o a k long
+
+-- what was there before appended bytes is kept, whether or not more is appended
+pub kept_by_last : {E : Type 0} (r : Result (Unit {0}) E) (k : ℕ) (o a b grown whole : List ℕ)
+    → length o ≡ k → grown ≡ o ++ a → OnOk r (whole ≡ grown ++ b) → OnErr r (whole ≡ grown)
+    → take k whole ≡ o
+kept_by_last (Ok u) k o a b grown whole long first more same =
+    kept_appended k o (a ++ b) whole long (appended_both o a b grown whole first more)
+kept_by_last (Err e) k o a b grown whole long first more same =
+    kept_appended k o a whole long (same ∙ first)
 
 -- bytes that are appended to bytes that were kept don't change what was there before them
 pub kept_before : (k m : ℕ) (o x grown whole : List ℕ) → length o ≡ k → grown ≡ o ++ x

@@ -56,7 +56,6 @@ fn form_length(list: &[Entry]) -> Result<u64, OutOfMemory>
 }
 
 // Appends the header of a form with this number of records and this length.
-#[tactic(auto, unfolding(crate::specs::Form::header))]
 fn append_header(count: u64, whole: u64, out: &mut Vec<u8>) -> Result<(), OutOfMemory>
     ensures ok { OnOk result (out.new.items ≡ out.old.items ++ header count whole) }
     ensures kept { take (vec_len out.old) out.new.items ≡ out.old.items }
