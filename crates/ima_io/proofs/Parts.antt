@@ -4,8 +4,7 @@ use Rattle.std.specs.List.{flat_map}
 use Rattle.std.proofs.KnownBytes.{Appends-trans}
 use Rattle.std.proofs.Common.{Option}
 use Rattle.std.proofs.Math.Seq.{take-append_seam}
-use Rattle.std.proofs.lemmas.List.{append-nil, drop-drop, take_more, take_rest}
-use Rattle.std.proofs.lemmas.List.Concat.{flat_map-append}
+use Rattle.std.proofs.lemmas.List.{drop-drop, take_rest}
 use Rattle.std.specs.Io.KnownBytes.{Appends}
 use Rattle.ima_io.specs.Bytes.{TookPart}
 
@@ -86,12 +85,3 @@ TookPart-after a b d all done piece rest e taken part =
       ),
       subst (Appends a d) (sym front) (Appends-trans a b d done (take n piece) taken part.2),
     )
-
--- the bytes of one more element
-pub flat_more : {X : Type 0} (f : X → List ℕ) (xs : List X) (i : ℕ) (x : X) → i < length xs
-    → x ≡ get_or xs i x
-    → flat_map f (take (i + 1) xs) ≡ flat_map f (take i xs) ++ f x
-flat_more f xs i x h e =
-    ap (flat_map f) (take_more xs i x h ∙ ap (λ y. take i xs ++ y ∷ []) (sym e))
-    ∙ flat_map-append f (take i xs) (x ∷ [])
-    ∙ ap (λ l. flat_map f (take i xs) ++ l) (append-nil (f x))

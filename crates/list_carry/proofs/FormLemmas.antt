@@ -1,14 +1,14 @@
 -- Loading what was saved gives the list back, and saving what was loaded gives the bytes back.
-use Rattle.std.proofs.Common.{◌≡◌, ℕ, zero, suc, ◌+◌, ◌-◌, ◌^◌, ◌<◌, ◌≤◌, ◌==◌, Bool, true, false, not, ◌&&◌, cond, List, [], ◌∷◌, ◌++◌, length, get_or, take, drop, Option, None, Some, Result, Ok, Err, refl, sym, ap, subst, ◌∙◌, arith, append_assoc, append-nil, length-append, length-drop, eqb-true, ne_eqb, le-leb, le-ltb, leb, leb-true, lt-ltb, ltb, ltb-false, Fits, slice_index_or, w8}
+use Rattle.std.proofs.Common.{◌≡◌, ℕ, zero, suc, ◌+◌, ◌-◌, ◌^◌, ◌<◌, ◌≤◌, ◌==◌, Bool, true, false, not, ◌&&◌, cond, List, [], ◌∷◌, ◌++◌, length, get_or, take, drop, Option, None, Some, Result, Ok, Err, refl, sym, ap, subst, ◌∙◌, arith, append_assoc, length-append, length-drop, eqb-true, ne_eqb, le-leb, le-ltb, leb, leb-true, lt-ltb, ltb, ltb-false, Fits, slice_index_or, w8}
 use Rattle.std.proofs.lemmas.Bool.{and_from, and_left, and_parts, and_right, lt-leb, false≢true, not-false, not-true}
-use Rattle.std.proofs.lemmas.List.{take_at, take_more, take_rest, take-take, length-take, length-take-le, drop-drop, take-append-drop}
-use Rattle.std.proofs.lemmas.List.Concat.{flat_map-append}
+use Rattle.std.proofs.lemmas.List.{take_rest, length-take-le, drop-drop, take-append-drop}
 use Rattle.std.proofs.lemmas.Option.{none-some, same_Some}
-use Rattle.std.specs.Prelude.{IfOk, OnErr, OnOk, SomeIff}
+use Rattle.std.specs.Prelude.{IfOk, SomeIff}
 use Rattle.std.specs.Str.{bytes_eq}
 use lib.Pointwise.{bytes_decides}
 use Rattle.byteorder.specs.Endian.{little_bytes, little_number}
 use Rattle.byteorder.specs.Numbers.{little_number-reads_back}
+use Rattle.list_lemmas.proofs.Appending.{flat_map_item}
 use Rattle.ima_templates.specs.Data.{sized, template_data}
 use Rattle.ima_templates.specs.declared.entry.Entry.{Entry}
 use Rattle.list_carry.specs.Form.{IsCarried, carried_form, form_length, header, header_length, mark, records_of, record_of}
@@ -30,34 +30,6 @@ unfolding sized
 appended_sized o grown whole bytes n first second count =
     second ∙ (λ i. first i ++ bytes) ∙ append_assoc o (little_bytes 4 n) bytes
     ∙ ap (λ (k : ℕ). o ++ (little_bytes 4 k ++ bytes)) count
-
--- two lists are appended
-pub appended_both : (o a b grown whole : List ℕ) → grown ≡ o ++ a → whole ≡ grown ++ b
-    → whole ≡ o ++ (a ++ b)
-appended_both o a b grown whole first second =
-    second ∙ (λ i. first i ++ b) ∙ append_assoc o a b
-
--- appended bytes don't change what was there before them
-pub kept_appended : (k : ℕ) (o a whole : List ℕ) → length o ≡ k → whole ≡ o ++ a
-    → take k whole ≡ o
-kept_appended k o a whole long is = ap (take k) is ∙ take_at o a k long
-
--- what was there before appended bytes is kept, whether or not more is appended
-pub kept_by_last : {E : Type 0} (r : Result (Unit {0}) E) (k : ℕ) (o a b grown whole : List ℕ)
-    → length o ≡ k → grown ≡ o ++ a → OnOk r (whole ≡ grown ++ b) → OnErr r (whole ≡ grown)
-    → take k whole ≡ o
-kept_by_last (Ok u) k o a b grown whole long first more same =
-    kept_appended k o (a ++ b) whole long (appended_both o a b grown whole first more)
-kept_by_last (Err e) k o a b grown whole long first more same =
-    kept_appended k o a whole long (same ∙ first)
-
--- bytes that are appended to bytes that were kept don't change what was there before them
-pub kept_before : (k m : ℕ) (o x grown whole : List ℕ) → length o ≡ k → grown ≡ o ++ x
-    → take m whole ≡ grown → take k whole ≡ o
-kept_before k m o x grown whole long is kept =
-    let within : k ≤ m =
-    omega (arith, long, ap length is, length-append o x, ap length kept, length-take m whole) in
-    sym (take-take k m whole within) ∙ ap (take k) (kept ∙ is) ∙ take_at o x k long
 
 -- five lists, grouped from the second on
 regroup : (o a b c d : List ℕ) → (((o ++ a) ++ b) ++ c) ++ d ≡ o ++ (((a ++ b) ++ c) ++ d)
@@ -161,14 +133,6 @@ length-record_of : (e : Entry) → length (record_of e) ≡ 10 + length (templat
 unfolding record_of sized
 length-record_of e = omega arith
 
--- the records of one more entry
-records_of-more : (list : List Entry) (i : ℕ) (e : Entry) → i < length list → e ≡ get_or list i e
-    → records_of (take (i + 1) list) ≡ records_of (take i list) ++ record_of e
-records_of-more list i e within is =
-    ap records_of (take_more list i e within ∙ (λ k. take i list ++ sym is k ∷ []))
-    ∙ flat_map-append record_of (take i list) (e ∷ [])
-    ∙ ap (λ (l : List ℕ). records_of (take i list) ++ l) (append-nil (record_of e))
-
 -- the length of the form of one more entry
 pub form_length-more : (list : List Entry) (i : ℕ) (e : Entry) → i < length list
     → e ≡ get_or list i e
@@ -177,19 +141,10 @@ pub form_length-more : (list : List Entry) (i : ℕ) (e : Entry) → i < length 
 form_length-more list i e within is =
     omega (
       arith,
-      ap length (records_of-more list i e within is),
+      ap length (flat_map_item record_of list i e within is),
       length-append (records_of (take i list)) (record_of e),
       length-record_of e,
     )
-
--- the record of one more entry is appended
-pub appended_record : (list : List Entry) (i : ℕ) (e : Entry) (o grown whole : List ℕ)
-    → i < length list → e ≡ get_or list i e → grown ≡ o ++ records_of (take i list)
-    → whole ≡ grown ++ record_of e → whole ≡ o ++ records_of (take (i + 1) list)
-appended_record list i e o grown whole within is so_far more =
-    more ∙ (λ k. so_far k ++ record_of e)
-    ∙ append_assoc o (records_of (take i list)) (record_of e)
-    ∙ ap (λ (l : List ℕ). o ++ l) (sym (records_of-more list i e within is))
 
 -- a sum that fits is the sum
 pub sum_is : (o : Option ℕ) (P : Type 0) (v x : ℕ) → SomeIff o P v → o ≡ Some x → x ≡ v

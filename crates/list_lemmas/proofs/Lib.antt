@@ -1,4 +1,5 @@
 pub mod Appending
 pub mod Containing
+pub mod Kept
 pub mod Properties
 pub mod Remaining

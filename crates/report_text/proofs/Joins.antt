@@ -1,7 +1,7 @@
 -- Words joined by spaces, and lines appended one after another.
 use Rattle.std.proofs.Common.{◌≡◌, ◌≢◌, ℕ, suc, ◌+◌, ◌<◌, ◌≤◌, Bool, true, List, [], ◌∷◌, ◌++◌, take, drop, map, get_or, length, codes, Option, Some, None, Result, Ok, Err, cond, refl, sym, ap, ◌∙◌, append_assoc, drop-cons, arith}
 use Rattle.report_text.specs.Numerals.{numeral}
-use Rattle.std.specs.List.{flat_map, join_with_byte}
+use Rattle.std.specs.List.{join_with_byte}
 use Rattle.std.specs.Result.{OnOk, is_ok}
 use Rattle.std.proofs.lemmas.Bool.{false≢true}
 use Rattle.std.proofs.lemmas.List.{append-nil, drop_all, map_push, take_more}
@@ -198,19 +198,6 @@ lines_end lines none o out xs i le h =
     sym (append-nil out)
     ∙ ap (λ (ls : List Line). out ++ text_of ls) (sym (ap (lines i) (drop_all i xs le) ∙ none i))
     ∙ h
-
--- the texts of the elements so far, and of one more
-pub texts_on : {X : Type 0} (f : X → List ℕ) (o out new : List ℕ) (xs : List X) (i : ℕ) (x : X)
-    → i < length xs → x ≡ get_or xs i x → out ≡ o ++ flat_map f (take i xs) → new ≡ out ++ f x
-    → new ≡ o ++ flat_map f (take (i + 1) xs)
-texts_on f o out new xs i x lt is h k =
-    let so_far = flat_map f (take i xs) in
-    let more : flat_map f (take (i + 1) xs) ≡ flat_map f (take i xs) ++ f (get_or xs i x) =
-    ap (flat_map f) (take_more xs i x lt)
-    ∙ flat_map-append f (take i xs) (get_or xs i x ∷ [])
-    ∙ ap (λ l. flat_map f (take i xs) ++ l) (append-nil (f (get_or xs i x))) in
-    k ∙ ap (λ l. l ++ f x) h ∙ append_assoc o so_far (f x)
-    ∙ ap (λ l. o ++ l) (ap (λ y. so_far ++ f y) is ∙ sym more)
 
 -- ---- the last piece
 

@@ -5,7 +5,8 @@ use Rattle.std.proofs.KnownBytes.{Appends-trans}
 use Rattle.std.proofs.lemmas.List.{take_all}
 use Rattle.std.proofs.lemmas.Result.{err_from_is_err_and}
 use Rattle.ima_io.specs.Bytes.{TookPart}
-use Rattle.ima_io.proofs.Parts.{TookPart-after, flat_at, flat_more}
+use Rattle.list_lemmas.proofs.Appending.{flat_map_item}
+use Rattle.ima_io.proofs.Parts.{TookPart-after, flat_at}
 use Rattle.ima_io.proofs.whole.write_pieces.Goals as goal
 
 pub returns-in_err-write_all-clause-part : goal.returns-in_err-write_all-clause-part
@@ -26,7 +27,7 @@ loop-piece-preserved g c =
     let old = c.loop-piece.invariant in
     let wrote = c.in_ok-write_all.ensures in record {
       taken = subst (Appends _ _)
-          (sym (flat_more (λ v. v.items) c.as_slice-piece-items.result.now c.loop-piece.piece-index
+          (sym (flat_map_item (λ v. v.items) c.as_slice-piece-items.result.now c.loop-piece.piece-index
           c.piece-item.result c.loop-piece-test.true c.piece-item.is))
           (Appends-trans _ _ _ _ _ old.taken
           (subst (Appends _ _) c.deref.ensures.value wrote.whole));

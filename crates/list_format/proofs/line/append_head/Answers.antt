@@ -5,7 +5,8 @@ use Rattle.hex.specs.Hex.{encode_lower}
 use Rattle.inode_meta.specs.Words.{template_word}
 use Rattle.ima_templates.specs.declared.entry.Entry.{Entry}
 use Rattle.list_format.specs.Line.{pcr_text}
-use Rattle.list_format.proofs.AppendLemmas.{appended-2, appended-3, appended-4, kept_append, kept_same}
+use Rattle.list_lemmas.proofs.Kept.{appended_both, kept_append, kept_same}
+use Rattle.list_format.proofs.AppendLemmas.{appended-3, appended-4}
 use Rattle.list_format.proofs.line.append_head.Goals as goal
 
 pub returns-clause-ok : goal.returns-clause-ok
@@ -49,7 +50,7 @@ returns-in_err-extend_from_slice-2 c =
       ok = tt;
       kept = kept_append _ _ _ _ (omega arith)
           (c.in_err-extend_from_slice-2.ensures.items
-          ∙ appended-2 c.args.out.now.items _ _ c.pcr_digits.result _
+          ∙ appended_both c.args.out.now.items _ _ c.pcr_digits.result _
           c.in_ok-extend_from_slice.ensures.items
           c.in_ok-append_hex.ensures.ok);
     }

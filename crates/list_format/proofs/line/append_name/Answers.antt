@@ -1,7 +1,8 @@
 -- What was there before both appends stays.
 use Rattle.std.proofs.Common.{[], ◌∷◌, arith}
 use Rattle.std.specs.Prelude.{is_ok}
-use Rattle.list_format.proofs.AppendLemmas.{kept_same, kept_unless}
+use Rattle.list_lemmas.proofs.Kept.{kept_same}
+use Rattle.list_format.proofs.AppendLemmas.{kept_unless}
 use Rattle.list_format.proofs.line.append_name.Goals as goal
 
 pub returns-clause-kept : goal.returns-clause-kept

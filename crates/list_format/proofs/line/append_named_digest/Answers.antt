@@ -1,12 +1,12 @@
 -- What was there before the three appends stays.
 use Rattle.std.proofs.Common.{[], ◌∷◌, ◌∙◌, arith}
-use Rattle.list_format.proofs.AppendLemmas.{appended-2, kept_append, kept_last, kept_same}
+use Rattle.list_lemmas.proofs.Kept.{appended_both, kept_append, kept_by_last, kept_same}
 use Rattle.list_format.proofs.line.append_named_digest.Goals as goal
 
 pub returns-clause-kept : goal.returns-clause-kept
 returns-clause-kept c =
-    kept_last c.append_hex.result _ _ _ _ _ _ (omega arith)
-    (appended-2 c.args.out.now.items _ _ (32 ∷ []) _ c.in_ok-extend_from_slice.ensures.items
+    kept_by_last c.append_hex.result _ _ _ _ _ _ (omega arith)
+    (appended_both c.args.out.now.items _ _ (32 ∷ []) _ c.in_ok-extend_from_slice.ensures.items
     c.in_ok-extend_from_slice-2.ensures.items)
     c.append_hex.ensures.ok c.append_hex.ensures.err
 

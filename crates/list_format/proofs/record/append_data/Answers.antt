@@ -4,7 +4,8 @@ use Rattle.std.specs.Vec.{vec_len}
 use Rattle.byteorder.specs.Endian.{little_bytes}
 use Rattle.inode_meta.specs.declared.measurement.Template.TheVariants.{Ima}
 use Rattle.ima_templates.specs.Data.{sized, template_data}
-use Rattle.list_format.proofs.AppendLemmas.{appended-2, kept_append, kept_before, kept_same, shown_data-sized}
+use Rattle.list_lemmas.proofs.Kept.{appended_both, kept_append, kept_before, kept_same}
+use Rattle.list_format.proofs.AppendLemmas.{shown_data-sized}
 use Rattle.list_format.proofs.record.append_data.Goals as goal
 
 pub returns-in_ok-absorb_data-in_default : goal.returns-in_ok-absorb_data-in_default
@@ -12,14 +13,14 @@ unfolding sized
 returns-in_ok-absorb_data-in_default c =
     let not_ima : c.args.e.now.template ≢ Ima = search rules in
     record {
-      ok = appended-2 _ _ _ _ _ c.in_ok-append_number-in_default.ensures.ok
+      ok = appended_both _ _ _ _ _ c.in_ok-append_number-in_default.ensures.ok
           c.in_ok-absorb_data-in_default.ensures.ok
           ∙ ap (λ l. c.args.out.now.items ++ l)
           (ap (λ n. little_bytes 4 n ++ template_data c.args.e.now)
           c.in_ok-data_length-in_default.ensures.exact
           ∙ shown_data-sized c.args.e.now c.args.e.now.template not_ima);
       kept = kept_append _ _ _ _ (omega arith)
-          (appended-2 c.args.out.now.items _ _
+          (appended_both c.args.out.now.items _ _
           (little_bytes 4 c.in_ok-data_length-in_default.field-0) _
           c.in_ok-append_number-in_default.ensures.ok c.in_ok-absorb_data-in_default.ensures.ok);
     }
@@ -33,6 +34,5 @@ pub returns-in_err-absorb_data-in_default-clause-kept :
     goal.returns-in_err-absorb_data-in_default-clause-kept
 returns-in_err-absorb_data-in_default-clause-kept c =
     kept_before c.args.out.now.items c.append_number.new.out.items _ _
-    (vec_len c.args.out.now) (vec_len c.append_number.new.out) (omega arith)
-    (omega arith) c.in_ok-append_number-in_default.ensures.ok
+    (vec_len c.args.out.now) (vec_len c.append_number.new.out) (omega arith) c.in_ok-append_number-in_default.ensures.ok
     c.in_err-absorb_data-in_default.ensures.kept

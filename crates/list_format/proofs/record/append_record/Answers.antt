@@ -9,7 +9,8 @@ use Rattle.ima_templates.specs.declared.entry.Entry.{Entry}
 use Rattle.ima_templates.specs.Data.{sized}
 use Rattle.ima_templates.specs.Digests.{template_digest}
 use Rattle.list_format.specs.Record.{binary_record, shown_data}
-use Rattle.list_format.proofs.AppendLemmas.{appended-2, appended-3, appended-4, kept_append, kept_before, kept_same}
+use Rattle.list_lemmas.proofs.Kept.{appended_both, kept_append, kept_before, kept_same}
+use Rattle.list_format.proofs.AppendLemmas.{appended-3, appended-4}
 use Rattle.list_format.proofs.record.append_record.Goals as goal
 
 pub returns-clause-ok : goal.returns-clause-ok
@@ -61,8 +62,7 @@ returns-in_err-append_sized c =
       ok = tt;
       kept = kept_before c.args.out.now.items c.extend_from_slice.new.self.items _ _
           (vec_len c.args.out.now) (vec_len c.extend_from_slice.new.self) (omega arith)
-          (omega arith)
-          (appended-2 c.args.out.now.items _ _ (little_bytes 4 c.e.inside.pcr) _
+          (appended_both c.args.out.now.items _ _ (little_bytes 4 c.e.inside.pcr) _
           c.in_ok-append_number.ensures.ok
           c.in_ok-extend_from_slice.ensures.items)
           c.in_err-append_sized.ensures.kept;
@@ -75,7 +75,7 @@ returns-in_err-append_data c =
     rw (p.1) record {
       ok = tt;
       kept = kept_before c.args.out.now.items c.append_sized.new.out.items _ _
-          (vec_len c.args.out.now) (vec_len c.append_sized.new.out) (omega arith) (omega arith)
+          (vec_len c.args.out.now) (vec_len c.append_sized.new.out) (omega arith)
           (appended-3 _ _ _ _ _ _ _ c.in_ok-append_number.ensures.ok
           c.in_ok-extend_from_slice.ensures.items c.in_ok-append_sized.ensures.ok)
           c.in_err-append_data.ensures.kept;
