@@ -1,8 +1,10 @@
 -- The outcome that each result of a call stands for. `None` is blocked: there is no event.
-use Rattle.std.specs.Prelude.{◌≡◌, ℕ, Option, Some, None, Bool, true, false}
+use Rattle.std.specs.Prelude.{◌≡◌, ℕ, Option, Some, None, Bool, true, false, Result, Ok, Err}
 use Rattle.hash_algos.specs.declared.algo.Algo.{Algo}
 use Rattle.inode_events.specs.declared.told.Told.{Told}
 use Rattle.inode_events.specs.declared.told.Told.TheVariants as told
+use Rattle.inode_pages.specs.declared.content.PageErr.{PageErr}
+use Rattle.inode_pages.specs.declared.content.PageErr.TheVariants as page
 use Rattle.inode_answers.specs.declared.answers.CloseTaken.{CloseTaken}
 use Rattle.inode_answers.specs.declared.answers.CloseTaken.TheVariants as close_taken
 use Rattle.inode_answers.specs.declared.answers.Counted.{Counted}
@@ -42,6 +44,14 @@ set_told (set.Status status) = Some (told.Status status)
 abbrev pub wrote_told : Wrote → Told
 wrote_told wrote.Done = told.Done
 wrote_told wrote.TooBig = told.TooBig
+
+-- the call's result says how the change of the content ended
+abbrev pub IsWrote : Result (Unit {0}) PageErr → Wrote → Type 0
+IsWrote (Ok done) wrote.Done = Unit {0}
+IsWrote (Ok done) wrote.TooBig = ⊥
+IsWrote (Err page.TooBig) wrote.Done = ⊥
+IsWrote (Err page.TooBig) wrote.TooBig = Unit {0}
+IsWrote (Err page.OutOfMemory) w = ⊥
 
 abbrev pub piece_told : Piece → Told
 piece_told piece.More = told.More

@@ -1,11 +1,13 @@
 // Changes of attributes, each with the HMAC that it renews: all or nothing, without a copy of the
 // attribute list. If memory runs out, the attributes are unchanged.
 ghost use Rattle.std.specs.Prelude.{◌≡◌, false, OnOk, OnErr};
+ghost use Rattle.std.specs.Option.{option_copied};
 ghost use Rattle.inode_events.specs.Says.{is_too_long};
-ghost use Rattle.inode_answers.specs.Changes.{changed_on, labelled_on, mended_on};
+ghost use Rattle.inode_answers.specs.Changes.{IsRewriting, changed_on, labelled_on, mended_on, rewritten};
 
 use evm_verify::Evm;
 use hash_algos::Digest;
+use inode_events::{Deed, changed};
 use inode_meta::{EvmStatus, Meta};
 use label_values::{MAX_LABEL, write_label};
 use std::alloc::AllocError as OutOfMemory;
@@ -74,5 +76,32 @@ pub fn mend_on(
     match evm.status(attrs, meta) {
         EvmStatus::Old => evm.renew(attrs, meta),
         _ => label_on(evm, attrs, meta, digest),
+    }
+}
+
+/// The attribute writes of a deed that is done: a call's change of an attribute, the HMAC over new
+/// metadata, or at a close the label of the digest that is given.
+pub fn rewrite(
+    evm: &Evm,
+    attrs: &mut Attrs,
+    meta: &Meta,
+    deed: &Deed,
+    digest: Option<&Digest>,
+) -> Result<(), OutOfMemory>
+    requires { IsRewriting deed.now (option_copied digest) }
+    ensures ok { OnOk result (attrs.new
+        ≡ rewritten evm.now deed.now (option_copied digest.entry) meta.now attrs.old) }
+    ensures err { OnErr result (attrs.new ≡ attrs.old) }
+{
+    match deed {
+        Deed::SetAttr { name, value, .. } => {
+            change_on(evm, attrs, meta, name.as_slice(), value.get())
+        }
+        Deed::SetMeta { change } => evm.renew(attrs, &changed(*change, *meta)),
+        Deed::CloseFinish { .. } => match digest {
+            Some(digest) => label_on(evm, attrs, meta, digest),
+            None => unreachable!(),
+        },
+        _ => unreachable!(),
     }
 }

@@ -10,11 +10,14 @@ mod told;
 mod values;
 
 pub use answers::{Checked, CloseTaken, Counted, Found, Got, Piece, Set, Taken, Wrote};
-pub use attributes::{change_on, label_on, mend_on};
-pub use outcomes::{admits, creates, found, is_mend, piece_of, place_of, placed_if_measured};
+pub use attributes::{change_on, label_on, mend_on, rewrite};
+pub use outcomes::{
+    admits, appraises, counted, creates, found, found_at, is_mend, piece_of, place_of,
+    placed_if_measured, wrote,
+};
 pub use std::alloc::AllocError as OutOfMemory;
 pub use told::{
     by_status, counted_told, finished_told, found_told, piece_told, set_outcome, set_told,
     wrote_told,
 };
-pub use values::{copied, is_no_label, is_too_long, signature_in};
+pub use values::{copied, copies, is_no_label, is_too_long, signature_in};

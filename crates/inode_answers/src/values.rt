@@ -1,12 +1,13 @@
-// The values of attributes that calls give and labels have.
+// The values of attributes that calls give and labels have, and copies of what a file has.
 ghost use Rattle.std.specs.Prelude.{◌≡◌, Some, IfOk};
 ghost use Rattle.std.specs.Option.{option_copied};
 ghost use Rattle.inode_events.specs.Listing.{signature_in};
 ghost use Rattle.inode_events.specs.Says.{is_no_label, is_too_long};
 
-use inode_events::BoxedValue;
+use inode_events::{BoxedValue, Image};
+use inode_pages::Content;
 use std::alloc::{AllocError as OutOfMemory, Global};
-use xattr_store::{Bytes, MAX_VALUE};
+use xattr_store::{Attrs, Bytes, MAX_VALUE};
 
 // The highest type of a label that the kernel knows.
 const LAST_TYPE: u8 = 6;
@@ -49,6 +50,21 @@ pub fn copied(alloc: Global, value: Option<&[u8]>) -> Result<BoxedValue, OutOfMe
         Some(bytes) => Some(Bytes::from_slice(alloc, bytes)?),
     };
     BoxedValue::new(alloc, copy)
+}
+
+/// Copies of the path and of the image's content and attributes.
+pub fn copies(
+    alloc: Global,
+    path: &[u8],
+    image: &Image,
+) -> Result<(Bytes, Content, Attrs), OutOfMemory>
+    ensures { IfOk result (λ r. (r.0 ≡ path.now)
+        × ((r.1 ≡ image.now.content) × (r.2 ≡ image.now.attrs))) }
+{
+    let content = image.content.share(alloc)?;
+    let attrs = image.attrs.copy()?;
+    let path = Bytes::from_slice(alloc, path)?;
+    Ok((path, content, attrs))
 }
 
 /// The label, if it is a signature; otherwise no bytes.

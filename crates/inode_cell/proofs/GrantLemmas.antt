@@ -27,7 +27,7 @@ use Rattle.inode_events.specs.declared.deed.Deed.TheVariants as deed
 use Rattle.inode_events.specs.declared.told.Event.{Event}
 use Rattle.inode_events.specs.declared.told.Grant.{Grant}
 use Rattle.inode_events.specs.declared.told.Told.TheVariants as told
-use Rattle.inode_state.specs.Collecting.{HasAsked, IfAsked, IsAsked, Short, short_of, short_seen, shortened, shorts_seen}
+use Rattle.inode_state.specs.Collecting.{HasAsked, IfAsked, IsAsked, Short, short_of, short_seen, shortened, shorts_seen, asked_in}
 use Rattle.inode_state.specs.InForce.{sums_of}
 use Rattle.inode_state.specs.declared.collecting.Asked.{Asked}
 use Rattle.inode_state.specs.declared.collecting.Collecting.{Collecting}
@@ -35,7 +35,7 @@ use Rattle.inode_state.specs.declared.facts.Facts.{Facts}
 use Rattle.inode_state.specs.declared.in_force.Sums.{Sums}
 use Rattle.inode_state.specs.laws_of_journals.Standing.{collecting_stage}
 use Rattle.inode_state.proofs.laws_of_journals.Stages.{Collects, StageIs, stage_collects}
-use Rattle.inode_cell.specs.Granting.{IsEntering, IsGranting, asked_in, collected_stage, digests_in, placing, sums_in, sums_in_force}
+use Rattle.inode_cell.specs.Granting.{IsEntering, IsGranting, collected_stage, digests_in, placing, sums_in, sums_in_force}
 use Rattle.inode_cell.specs.Pieces.{IsPieceDeed}
 use Rattle.inode_cell.specs.Value.{CellValue, IsSameCell}
 use Rattle.inode_cell.proofs.Acting.{same_value}

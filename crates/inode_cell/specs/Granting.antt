@@ -21,7 +21,6 @@ use Rattle.inode_events.specs.policy.declared.access.Action.{Action}
 use Rattle.inode_state.specs.Collecting.{IsAsked}
 use Rattle.inode_state.specs.Facts.{AreFacts}
 use Rattle.inode_state.specs.declared.collecting.Asked.{Asked}
-use Rattle.inode_state.specs.declared.collecting.Collecting.{Collecting}
 use Rattle.inode_state.specs.declared.in_force.Sums.{Sums}
 use Rattle.inode_state.specs.declared.facts.Facts.{Facts}
 
@@ -76,8 +75,3 @@ collected_stage = Collected
 abbrev pub Collects : ℕ → Option Collection → Type 0
 Collects file None = ⊥
 Collects file (Some c) = c.file ≡ file
-
--- what was asked for the open collection, if a check asked for it
-abbrev pub asked_in : Option Collecting → Option Asked
-asked_in None = None
-asked_in (Some c) = c.asked

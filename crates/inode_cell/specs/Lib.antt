@@ -3,7 +3,6 @@ pub mod Fields
 pub mod Acts
 pub mod Sums
 pub mod Pieces
-pub mod Writing
 pub mod Listing
 pub mod Granting
 pub mod Ending

@@ -11,10 +11,10 @@ ghost use Rattle.inode_cell.specs.Acts.{Acts, IsChange, IsPlain, Stays};
 ghost use Rattle.inode_answers.specs.Changes.{IsRewriting};
 ghost use Rattle.inode_cell.specs.Value.{IsSameCell};
 
-use crate::rewriting::rewrite;
 use grow_list::Pass;
 use hash_algos::Digest;
 use ima_templates::Entry;
+use inode_answers::rewrite;
 use inode_events::{Deed, Event, Told};
 use inode_meta::Who;
 use inode_pages::Content;

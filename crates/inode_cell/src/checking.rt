@@ -2,11 +2,13 @@
 ghost use Rattle.std.specs.Prelude.{◌≡◌, ◌+◌, Some, IfOk, OnErr, length};
 ghost use Rattle.inode_events.specs.Asked.{violation_in};
 ghost use Rattle.inode_events.specs.Checks.{no_action};
+ghost use Rattle.inode_events.specs.Files.{readers, writers};
 ghost use Rattle.inode_events.specs.Legal.{May};
 ghost use Rattle.inode_events.specs.Listing.{violated};
 ghost use Rattle.inode_state.specs.laws_of_journals.Own.{IsBy};
 ghost use Rattle.inode_events.specs.NewestFirst.{newest_first};
-ghost use Rattle.inode_events.specs.Says.{place_of};
+ghost use Rattle.inode_events.specs.Marks.{must_measure};
+ghost use Rattle.inode_events.specs.Says.{check_told, place_of};
 ghost use Rattle.inode_events.specs.State.{metadata};
 ghost use Rattle.rule_match.specs.Decision.{access_of, decide_of};
 ghost use Rattle.inode_cell.specs.Acts.{Acts, MayBy, Stays};
@@ -16,7 +18,7 @@ use crate::cell::InodeCell;
 use crate::listing::list_asked;
 use grow_list::Pass;
 use ima_templates::{Entry, violation};
-use inode_answers::{Checked, Found, found, found_told, place_of};
+use inode_answers::{Checked, Found, found, found_at, found_told, place_of};
 use inode_events::{Deed, Event};
 use inode_meta::{Cred, Who};
 use inode_state::{Facts, Kind, counts_as};
@@ -26,6 +28,22 @@ use rule_match::policy::{Access, Action, Func, Super};
 use std::alloc::AllocError as OutOfMemory;
 
 impl InodeCell {
+    // The violation that a check finds, with 0 for its place in the measurement list.
+    fn found(&self, writing: bool, action: &Action) -> Found
+        ensures { found_told result ≡ check_told writing action.now.measure (readers (newest_first
+            self.now.list)) (writers (newest_first self.now.list)) (must_measure (newest_first
+            self.now.list)) 0 }
+    {
+        let state = self.kept.state();
+        found(
+            writing,
+            action.measure,
+            state.counts.readers,
+            state.counts.writers,
+            state.marks.must_measure,
+        )
+    }
+
     // The entry that the check adds to the measurement list, if it found a violation.
     fn violation(&self, found: Found) -> Result<Option<Entry>, OutOfMemory>
         ensures { IfOk result (λ e. e ≡ violation_in self.now.inode (found_told found)) }
@@ -114,17 +132,11 @@ impl InodeCell {
         ensures err_book { OnErr result (book.new.list ≡ book.old.list) }
     {
         let writing = counts_as(Kind::Writer, self.kept.how_at(file));
-        let state = self.kept.state();
-        let (readers, writers, must) = (
-            state.counts.readers,
-            state.counts.writers,
-            state.marks.must_measure,
-        );
-        let entry = self.violation(found(writing, action.measure, readers, writers, must, 0))?;
+        let found = self.found(writing, action);
+        let entry = self.violation(found)?;
         self.reserve_with(book)?;
         let placed = list_asked(book, &mut self.book, entry);
-        let place = place_of(placed);
-        let found = found(writing, action.measure, readers, writers, must, place);
+        let found = found_at(found, place_of(placed));
         let deed = Deed::Check {
             file,
             func,

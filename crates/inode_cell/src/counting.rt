@@ -1,36 +1,16 @@
 // Counting of files that are opened or executed.
-ghost use Rattle.std.specs.Prelude.{◌≡◌, ℕ, List, length, Some, IfOk, OnErr, ◌+◌};
+ghost use Rattle.std.specs.Prelude.{◌≡◌, List, length, Some, IfOk, OnErr, ◌+◌};
 ghost use Rattle.ima_templates.specs.declared.entry.Entry.{Entry as AnyEntry};
-ghost use Rattle.inode_events.specs.Files.{creates, execs, writers};
-ghost use Rattle.inode_events.specs.NewestFirst.{newest_first};
-ghost use Rattle.inode_events.specs.Says.{count_told};
-ghost use Rattle.inode_events.specs.State.{present};
 ghost use Rattle.inode_cell.specs.Acts.{Acts, Stays};
 ghost use Rattle.inode_answers.specs.Answers.{IsPlaced, counted_told};
 
 use crate::cell::InodeCell;
 use grow_list::Pass;
-use inode_answers::{Counted, counted_told, creates};
+use inode_answers::{Counted, counted, counted_told};
 use inode_events::{Deed, Event, How};
 use inode_meta::Who;
-use inode_state::{Facts, Kind, counts_as};
+use inode_state::Facts;
 use std::alloc::AllocError as OutOfMemory;
-
-// The result of a count whose event would be at `place`.
-fn counted(how: How, is_there: bool, writers: u64, execs: u64, place: u64) -> Counted
-    ensures told { counted_told result ≡ count_told how is_there writers execs }
-    ensures place { IsPlaced place result }
-{
-    if !is_there && !creates(how) {
-        Counted::NotFound
-    } else if counts_as(Kind::Writer, Some(how)) && execs > 0
-        || counts_as(Kind::Exec, Some(how)) && writers > 0
-    {
-        Counted::TextBusy
-    } else {
-        Counted::Held(place)
-    }
-}
 
 impl InodeCell {
     /// Counts a file for an open or an execution. The file is then named by the place of this

@@ -16,38 +16,18 @@ ghost use Rattle.inode_state.specs.State.{IsState};
 ghost use Rattle.inode_state.specs.Value.{beside_own, birth_of, new_pass};
 ghost use Rattle.inode_state.specs.laws_of_journals.OwnLaws.{TellsByMine};
 ghost use Rattle.inode_state.specs.laws_of_journals.Own.{IsOwned};
-ghost use Rattle.inode_cell.specs.Ending.{HasPasses, digest_in};
+ghost use Rattle.inode_cell.specs.Ending.{HasPasses};
 ghost use Rattle.inode_cell.specs.Value.{IsSameCell};
 
 use crate::cell::InodeCell;
 use grow_list::Pass;
-use hash_algos::Digest;
 use ima_templates::Entry;
+use inode_answers::copies;
 use inode_events::{EndedInode, Event, Image, Settings};
 use inode_pages::Content;
-use inode_state::{InForce, InodeJournal, State};
+use inode_state::{InodeJournal, State, digest_in};
 use std::alloc::{AllocError as OutOfMemory, Global};
-use xattr_store::{Attrs, Bytes};
-
-fn digest_in(in_force: Option<InForce>) -> Option<Digest>
-    ensures { result ≡ digest_in in_force }
-{
-    match in_force {
-        None => None,
-        Some(digests) => Some(digests.sums.digest),
-    }
-}
-
-// Copies of the path and of the image's content and attributes.
-fn copies(alloc: Global, path: &[u8], image: &Image) -> Result<(Bytes, Content, Attrs), OutOfMemory>
-    ensures { IfOk result (λ r. (r.0 ≡ path.now)
-        × ((r.1 ≡ image.now.content) × (r.2 ≡ image.now.attrs))) }
-{
-    let content = image.content.share(alloc)?;
-    let attrs = image.attrs.copy()?;
-    let path = Bytes::from_slice(alloc, path)?;
-    Ok((path, content, attrs))
-}
+use xattr_store::Attrs;
 
 impl InodeCell {
     /// Creates an inode from an image, with a pass for each task: the pass of task t has the number

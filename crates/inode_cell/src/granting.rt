@@ -6,7 +6,7 @@ ghost use Rattle.inode_events.specs.Stage.{stage};
 ghost use Rattle.inode_events.specs.declared.told.Told.{Told as AnyTold};
 ghost use Rattle.inode_meta.specs.declared.step.Who.{Who as AnyWho};
 ghost use Rattle.inode_state.specs.Facts.{AreFacts};
-ghost use Rattle.inode_cell.specs.Granting.{Collects, asked_in};
+ghost use Rattle.inode_cell.specs.Granting.{Collects};
 ghost use Rattle.inode_cell.specs.Acts.{Acts, MayBy, Stays};
 ghost use Rattle.inode_answers.specs.Answers.{BeginsBy, taken_told};
 ghost use Rattle.inode_cell.specs.Granting.{IsEntering, IsGranting, asked_stage, collected_stage, digests_in, sums_in_force};
@@ -26,21 +26,11 @@ use ima_templates::{Entry, build};
 use inode_answers::{Taken, mend_on, placed_if_measured, signature_in};
 use inode_events::{Deed, Event, Grant, Told};
 use inode_meta::{Slot, Who};
-use inode_state::{Asked, Collecting, Facts, Kind, Sums, copied, counts_as};
+use inode_state::{Asked, Facts, Kind, Sums, asked_in, counts_as};
 use measure_book::Book;
 use rule_match::policy::Action;
 use std::alloc::AllocError as OutOfMemory;
 use xattr_store::IMA_NAME;
-
-// What was asked for the open collection, if a check asked for it.
-fn asked_in(collecting: &Option<Collecting>) -> Option<Asked>
-    ensures { result ≡ asked_in collecting.now }
-{
-    match collecting {
-        None => None,
-        Some(collecting) => copied(&collecting.asked),
-    }
-}
 
 impl InodeCell {
     // The label, if it is a signature; otherwise no bytes.
@@ -265,11 +255,7 @@ impl InodeCell {
             digest: sums.0,
             sha1: sums.1,
         };
-        let copy = Asked {
-            slot: asked.slot,
-            action: asked.action,
-        };
-        let facts = Facts::granting(writing, Algo::Sha1, copy, Some(sums.copy()));
+        let facts = Facts::granting(writing, Algo::Sha1, asked.copy(), Some(sums.copy()));
         let deed = Deed::Finish { file };
         self.grant(pass, who, deed, file, &asked, &sums, &facts, book)
     }

@@ -2,7 +2,7 @@
 ghost use Rattle.std.specs.Prelude.{◌≡◌};
 ghost use Rattle.ima_templates.specs.declared.entry.Placed.{Placed as AnyPlaced};
 ghost use Rattle.inode_cell.specs.Granting.{placing};
-ghost use Rattle.inode_events.specs.Checks.{Check, appraises};
+ghost use Rattle.inode_events.specs.Checks.{Check};
 ghost use Rattle.inode_events.specs.Grants.{granted, mend_of, mends, verdict_for};
 ghost use Rattle.inode_events.specs.NewestFirst.{newest_first};
 ghost use Rattle.inode_events.specs.Verdicts.{judged};
@@ -11,7 +11,7 @@ ghost use Rattle.inode_state.specs.Collecting.{IsAsked};
 use crate::cell::InodeCell;
 use hash_algos::{AlgoSet, Digest};
 use ima_appraise::{mend_for, verdict};
-use inode_answers::{admits, is_mend};
+use inode_answers::{admits, appraises, is_mend};
 use inode_events::Grant;
 use inode_meta::{EvmStatus, Mode, Need};
 use inode_state::{Asked, key_of};
@@ -19,13 +19,6 @@ use label_values::{Mend, Verdict, read_label};
 use rule_match::policy::Action;
 
 impl InodeCell {
-    // Whether the file is appraised: the rules ask for it, and the mode isn't off.
-    fn appraises(&self, action: &Action) -> bool
-        ensures { result ≡ appraises self.now.inode action.now }
-    {
-        action.appraise && !matches!(self.kept.settings().mode, Mode::Off)
-    }
-
     // The verdict computed afresh over this digest.
     fn judged(&self, need: Need, algos: Option<AlgoSet>, digest: &Digest) -> Verdict
         ensures { result ≡ judged self.now.inode need algos digest.now
@@ -49,7 +42,7 @@ impl InodeCell {
         ensures { (check : Check) → IsAsked check asked.now
             → result ≡ verdict_for self.now.inode check digest.now (newest_first self.now.list) }
     {
-        if !self.appraises(&asked.action) {
+        if !appraises(self.kept.settings(), &asked.action) {
             return None;
         }
         match self.kept.state().verdicts.get(key_of(asked)) {

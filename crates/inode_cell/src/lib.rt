@@ -10,7 +10,6 @@ mod facts;
 mod granting;
 mod judging;
 mod listing;
-mod rewriting;
 mod setting;
 mod writing;
 

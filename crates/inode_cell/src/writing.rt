@@ -1,5 +1,5 @@
 // Writes, truncations and reads, and the pieces that a collection takes.
-ghost use Rattle.std.specs.Prelude.{◌≡◌, ℕ, ◌+◌, List, Some, is_err, length, true, IfOk, OnErr};
+ghost use Rattle.std.specs.Prelude.{◌≡◌, ℕ, ◌+◌, List, Some, length, IfOk, OnErr};
 ghost use Rattle.hash_algos.specs.Digest.{digest_of};
 ghost use Rattle.ima_templates.specs.declared.entry.Entry.{Entry as AnyEntry};
 ghost use Rattle.inode_events.specs.Integrity.{Collection as AnyCollection, collecting};
@@ -11,30 +11,17 @@ ghost use Rattle.inode_pages.specs.Content.{bytes_at, piece_at};
 ghost use Rattle.inode_cell.specs.Acts.{Acts, MayBy, Stays};
 ghost use Rattle.inode_answers.specs.Answers.{piece_told, wrote_told};
 ghost use Rattle.inode_cell.specs.Pieces.{IsPieceDeed};
-ghost use Rattle.inode_cell.specs.Writing.{IsWrote};
 
 use crate::cell::InodeCell;
 use grow_list::Pass;
 use hash_algos::Algo;
-use inode_answers::{Got, Piece, Wrote, piece_of, piece_told, wrote_told};
+use inode_answers::{Got, Piece, Wrote, piece_of, piece_told, wrote, wrote_told};
 use inode_events::{BoxedBytes, Deed, Event, Told};
 use inode_hashing::hashed_at;
 use inode_meta::Who;
-use inode_pages::{Page, PageErr};
+use inode_pages::Page;
 use inode_state::Facts;
 use std::alloc::AllocError as OutOfMemory;
-
-// The result of a write or truncation, by that of the change of the content.
-fn wrote(changed: Result<(), PageErr>) -> Result<Wrote, OutOfMemory>
-    ensures ok { IfOk result (λ w. IsWrote changed w) }
-    ensures err { OnErr result (is_err changed ≡ true) }
-{
-    match changed {
-        Ok(()) => Ok(Wrote::Done),
-        Err(PageErr::TooBig) => Ok(Wrote::TooBig),
-        Err(PageErr::OutOfMemory) => Err(OutOfMemory),
-    }
-}
 
 impl InodeCell {
     // The next piece of the open collection, for a deed that takes it.

@@ -1,5 +1,9 @@
+ghost use Rattle.std.specs.Prelude.{◌≡◌};
+ghost use Rattle.inode_events.specs.State.{changed};
+
 use crate::boxed_bytes::BoxedBytes;
 use crate::boxed_value::BoxedValue;
+use inode_meta::Meta;
 use policy_rules::{Action, Func};
 
 /// How a file is opened, which determines the counts that it raises.
@@ -21,6 +25,16 @@ pub enum Change {
     Mode(u16),
     /// A new owner and group, as `chown` sets them.
     Owner { uid: u32, gid: u32 },
+}
+
+/// The metadata with a new mode, or a new owner and group.
+pub fn changed(change: Change, meta: Meta) -> Meta
+    ensures { result ≡ changed change meta }
+{
+    match change {
+        Change::Mode(mode) => Meta { mode, ..meta },
+        Change::Owner { uid, gid } => Meta { uid, gid, ..meta },
+    }
 }
 
 /// The action of a step. A `file` is an open file of the inode, identified by the index of its

@@ -16,7 +16,7 @@ mod told;
 
 pub use boxed_bytes::BoxedBytes;
 pub use boxed_value::BoxedValue;
-pub use deed::{Change, Deed, How};
+pub use deed::{Change, Deed, How, changed};
 pub use ended::EndedInode;
 pub use ima_templates as templates;
 pub use image::{BoxedImage, Image};

@@ -51,6 +51,11 @@ abbrev pub shorts_seen : Option Collecting → Option Short
 shorts_seen None = None
 shorts_seen (Some c) = Some (short_seen c)
 
+-- what was asked for the open collection, if a check asked for it
+abbrev pub asked_in : Option Collecting → Option Asked
+asked_in None = None
+asked_in (Some c) = c.asked
+
 -- the check has the slot and the action that were asked for
 pub record IsAsked (check : Check) (a : Asked) : Type 0 where
   pub slot : a.slot ≡ slot_of check.func

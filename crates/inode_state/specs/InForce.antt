@@ -1,7 +1,8 @@
 -- The digest in force, compared with the journal's definition.
-use Rattle.std.specs.Prelude.{◌≡◌, ℕ, Bool, true, false, ◌&&◌, ◌||◌, not, List, Option, Some, None, option_map, if◌then◌else◌}
+use Rattle.std.specs.Prelude.{◌≡◌, ℕ, Bool, true, false, ◌&&◌, List, Option, Some, None, option_map, if◌then◌else◌}
 use Rattle.hash_algos.specs.Digest.{digest_of}
 use Rattle.hash_algos.specs.declared.algo.Algo.TheVariants.{Sha1}
+use Rattle.hash_algos.specs.declared.digest.Digest.{Digest}
 use Rattle.inode_events.specs.Inode.{Inode}
 use Rattle.inode_events.specs.Integrity as journal
 use Rattle.inode_events.specs.declared.deed.Deed.{Deed}
@@ -20,6 +21,11 @@ digests_seen f = record { digest = f.sums.digest; sha1 = f.sums.sha1; begin = f.
 abbrev pub in_force_seen : Option InForce → Option journal.Digests
 in_force_seen None = None
 in_force_seen (Some f) = Some (digests_seen f)
+
+-- the digest in force by its collection's algorithm
+abbrev pub digest_in : Option InForce → Option Digest
+digest_in None = None
+digest_in (Some digests) = Some digests.sums.digest
 
 abbrev pub sums_of : journal.Collection → Sums
 sums_of c = record { digest = journal.digest_from c; sha1 = digest_of Sha1 c.bytes }

@@ -3,7 +3,7 @@ ghost use Rattle.std.specs.Prelude.{◌≡◌, ◌+◌, ◌<◌, ◌^◌, List, 
 ghost use Rattle.inode_events.specs.Inode.{Inode as AnyInode};
 ghost use Rattle.inode_events.specs.Integrity.{collecting};
 ghost use Rattle.inode_events.specs.declared.told.Event.{Event as AnyEvent};
-ghost use Rattle.inode_state.specs.Collecting.{Asks, Chooses, begun_seen, collecting_next, more_seen, pieces_taken, shortened, shorts_seen};
+ghost use Rattle.inode_state.specs.Collecting.{Asks, Chooses, asked_in, begun_seen, collecting_next, more_seen, pieces_taken, shortened, shorts_seen};
 
 use crate::facts::Facts;
 use hash_algos::Algo;
@@ -37,16 +37,34 @@ pub struct Collecting {
     pub complete: bool,
 }
 
-/// A copy of what a check asked.
-pub fn copied(asked: &Option<Asked>) -> Option<Asked>
+impl Asked {
+    /// A copy of what a check asked.
+    pub fn copy(&self) -> Asked
+        ensures { result ≡ self.now }
+    {
+        Asked {
+            slot: self.slot,
+            action: self.action,
+        }
+    }
+}
+
+fn copied(asked: &Option<Asked>) -> Option<Asked>
     ensures { result ≡ asked.now }
 {
     match asked {
         None => None,
-        Some(asked) => Some(Asked {
-            slot: asked.slot,
-            action: asked.action,
-        }),
+        Some(asked) => Some(asked.copy()),
+    }
+}
+
+/// A copy of what was asked for the open collection, if a check asked for it.
+pub fn asked_in(collecting: &Option<Collecting>) -> Option<Asked>
+    ensures { result ≡ asked_in collecting.now }
+{
+    match collecting {
+        None => None,
+        Some(collecting) => copied(&collecting.asked),
     }
 }
 

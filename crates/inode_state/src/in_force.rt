@@ -1,6 +1,6 @@
 // The digest in force, and how each event changes it.
 ghost use Rattle.std.specs.Prelude.{◌≡◌, ◌||◌, ◌&&◌, not};
-ghost use Rattle.inode_state.specs.InForce.{in_force_after_lem, in_force_next, given_now, stale_now, voids_now};
+ghost use Rattle.inode_state.specs.InForce.{digest_in, in_force_after_lem, in_force_next, given_now, stale_now, voids_now};
 
 use crate::collecting::Collecting;
 use crate::writes::Writes;
@@ -34,6 +34,16 @@ impl Sums {
             digest: self.digest,
             sha1: self.sha1,
         }
+    }
+}
+
+/// The digest in force by its collection's algorithm.
+pub fn digest_in(in_force: Option<InForce>) -> Option<Digest>
+    ensures { result ≡ digest_in in_force }
+{
+    match in_force {
+        None => None,
+        Some(digests) => Some(digests.sums.digest),
     }
 }
 

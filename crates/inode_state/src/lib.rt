@@ -26,15 +26,15 @@ mod state;
 mod verdicts;
 mod writes;
 
-pub use collecting::{Asked, Collecting, copied};
+pub use collecting::{Asked, Collecting, asked_in};
 pub use counts::{Counts, Kind, counts_as};
 pub use events::counted;
 pub use facts::Facts;
-pub use in_force::{InForce, Sums};
+pub use in_force::{InForce, Sums, digest_in};
 pub use journal::InodeJournal;
 pub use keys::{Key, key_of};
 pub use marks::{Marks, is_last_drop};
-pub use metadata::{changed, metadata_after};
+pub use metadata::metadata_after;
 pub use state::State;
 pub use verdicts::{KeyedVerdict, Verdicts};
 pub use writes::Writes;

@@ -1,19 +1,9 @@
 // The metadata of an inode, and how each event changes it.
 ghost use Rattle.std.specs.Prelude.{◌≡◌};
-ghost use Rattle.inode_events.specs.State.{changed, metadata_after};
+ghost use Rattle.inode_events.specs.State.{metadata_after};
 
-use inode_events::{Change, Deed, Event, Told};
+use inode_events::{Deed, Event, Told, changed};
 use inode_meta::Meta;
-
-/// The metadata with a new mode, or a new owner and group.
-pub fn changed(change: Change, meta: Meta) -> Meta
-    ensures { result ≡ changed change meta }
-{
-    match change {
-        Change::Mode(mode) => Meta { mode, ..meta },
-        Change::Owner { uid, gid } => Meta { uid, gid, ..meta },
-    }
-}
 
 /// The metadata after an event. Only a birth and a change that was done affect it.
 pub fn metadata_after(e: &Event, old: Meta) -> Meta

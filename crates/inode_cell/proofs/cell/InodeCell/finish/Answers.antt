@@ -50,8 +50,8 @@ grant-requires-clause-grants c =
         writing = c.counts_as-writing.ensures ∙ ap (λ (o : Option How). holds is_writer o) (how (ap
             is_gone c.requires.may.may));
         algo = tt;
-        asked = (c.asked_for-asked.result, (refl, check));
+        asked = (c.copy.result, (refl, subst (IsAsked (last_check file p)) (sym c.copy.ensures) check));
         sums = finish_sums file c.args.sums (collecting i p) open_is c.requires.sums
-            ∙ ap Some (sym c.copy.ensures);
+            ∙ ap Some (sym c.copy-2.ensures);
       });
     }

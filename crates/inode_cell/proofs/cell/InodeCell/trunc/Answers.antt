@@ -1,4 +1,4 @@
-use Rattle.std.proofs.Common.{◌≡◌, [], Some, ℕ, List, refl, sym, ap, ◌∙◌}
+use Rattle.std.proofs.Common.{◌≡◌, [], Some, ℕ, List, refl, sym, ◌∙◌}
 use Rattle.inode_events.specs.Says.{write_told}
 use Rattle.inode_events.specs.State.{content_after}
 use Rattle.inode_events.specs.declared.deed.Deed.{Deed}
@@ -9,13 +9,13 @@ use Rattle.inode_cell.specs.Fields.{value_of}
 use Rattle.inode_cell.specs.Value.{CellValue}
 use Rattle.inode_cell.proofs.Acting.{acts_inside}
 use Rattle.inode_cell.proofs.Steps.{holds_on}
-use Rattle.inode_cell.proofs.WritingLemmas.{unchanged, wrote_content, wrote_says}
+use Rattle.inode_cell.proofs.WritingLemmas.{told_by, unchanged, wrote_content}
 use Rattle.inode_cell.proofs.cell.InodeCell.trunc.Goals as goal
 
 pub enter-requires-clause-told : goal.enter-requires-clause-told
-enter-requires-clause-told c = wrote_says c.resize.result c.in_ok-wrote.wrote c.args.len
-    c.in_ok-wrote.ensures.ok c.resize.ensures.too_big
-    ∙ ap Some (sym c.wrote_told-told.ensures)
+enter-requires-clause-told c =
+    told_by c.resize.result c.in_ok-wrote.wrote c.args.len c.wrote_told-told.result
+    c.in_ok-wrote.ensures.ok c.resize.ensures.too_big c.wrote_told-told.ensures
 
 -- the invariant holds if memory ran out, since nothing changed
 pub invariant_of-self : goal.invariant_of-self
@@ -29,9 +29,9 @@ invariant_of-self-2 c =
     let b = c.self.inside.book in
     let old : List ℕ = c.self.inside.content in
     let d : Deed = deed.Trunc c.args.file c.args.len in
-    let told_is : Some (write_told c.args.len) ≡ Some c.wrote_told-told.result = wrote_says
-    c.resize.result c.in_ok-wrote.wrote c.args.len c.in_ok-wrote.ensures.ok c.resize.ensures.too_big
-    ∙ ap Some (sym c.wrote_told-told.ensures) in
+    let told_is : Some (write_told c.args.len) ≡ Some c.wrote_told-told.result =
+    told_by c.resize.result c.in_ok-wrote.wrote _ _ c.in_ok-wrote.ensures.ok c.resize.ensures.too_big
+    c.wrote_told-told.ensures in
     rw c.enter.ensures.inode
     (holds_on k.inode k.list c.enter.new.self.list c.args.who d c.wrote_told-told.result old
     c.resize.new.self c.self.inside.attrs c.self.inside.attrs [] b.seen b.seen b.mine b.mine
@@ -47,10 +47,11 @@ returns-clause-acts c = λ list.
     let room = c.in_ok-reserve.ensures in
     let entered = c.enter.ensures in
     let d : Deed = deed.Trunc c.args.file c.args.len in
-    let said : Some c.wrote_told-told.result ≡ Some (write_told c.args.len) = sym (wrote_says
-    c.resize.result c.in_ok-wrote.wrote c.args.len c.in_ok-wrote.ensures.ok c.resize.ensures.too_big
-    ∙ ap Some (sym c.wrote_told-told.ensures)) in
-    let new : CellValue = value_of (record x { kept = c.enter.new.self; content = c.resize.new.self }) in
+    let said : Some c.wrote_told-told.result ≡ Some (write_told c.args.len) =
+    sym (told_by c.resize.result c.in_ok-wrote.wrote _ _ c.in_ok-wrote.ensures.ok
+    c.resize.ensures.too_big c.wrote_told-told.ensures) in
+    let new : CellValue =
+    value_of (record x { kept = c.enter.new.self; content = c.resize.new.self }) in
     acts_inside c.args.self.now c.reserve.new.self (value_of x) new list list c.args.pass.now
     c.enter.new.pass c.args.who d c.wrote_told-told.result (wrote_told c.in_ok-wrote.wrote)
     room.list room.same c.self.view_is c.wrote_told-told.ensures
