@@ -6,6 +6,8 @@ use Rattle.grow_list.specs.Shown.{Passed}
 use Rattle.ima_templates.specs.declared.entry.Entry.{Entry}
 use Rattle.world_model.specs.inodes.Acts.{Acts, Stays}
 use Rattle.world_model.specs.inodes.Value.{CellValue, IsSameCell}
+use Rattle.world_model.specs.Due.{HashesTold}
+use Rattle.world_model.specs.declared.hash_state.HashState.{HashState}
 use Rattle.inode_events.specs.Asked.{asked, entered, list_after, made, outcome}
 use Rattle.inode_events.specs.Inode.{Inode}
 use Rattle.inode_events.specs.NewestFirst.{newest_first}
@@ -15,7 +17,7 @@ use Rattle.inode_events.specs.declared.told.Told.{Told}
 use Rattle.inode_meta.specs.declared.step.Who.{Who}
 use Rattle.task_state.specs.Steps.{deed_in}
 use Rattle.task_state.specs.declared.step.DueDeed.{DueDeed}
-use Rattle.task_steps.specs.Leaving.{Leaves, told_by, told_in}
+use Rattle.task_steps.specs.Leaving.{Leaves, answer_by, told_by, told_in}
 
 -- what the deed of one arm did, the due deed did
 pub acts_due : {E : Type 0} (old new : CellValue) (pass pass2 : Passed Event) (who : Who)
@@ -25,6 +27,29 @@ pub acts_due : {E : Type 0} (old new : CellValue) (pass pass2 : Passed Event) (w
 acts_due old new pass pass2 who r same acts =
     subst (λ (d : DueDeed). IfOk r (λ o. (list : List Entry)
     → Acts old new list list pass pass2 who (deed_in d) o)) (sym same) acts
+
+-- what a call on the inode did, the deed did that has its answer
+pub acts_by : {A E : Type 0} (old new : CellValue) (pass pass2 : Passed Event) (who : Who)
+    (f : A → Option Told) (r : Result A E) (x : Result (Option Told) E) {d e : Deed} → d ≡ e
+    → x ≡ answer_by f r
+    → IfOk r (λ v. (list : List Entry) → Acts old new list list pass pass2 who e (f v))
+    → IfOk x (λ o. (list : List Entry) → Acts old new list list pass pass2 who d o)
+acts_by {A} {E} old new pass pass2 who f (Ok v) x {d} {e} same is acts =
+    subst (λ (y : Result (Option Told) E). IfOk y (λ o. (list : List Entry)
+    → Acts old new list list pass pass2 who d o)) (sym is)
+    (λ list. subst (λ (y : Deed). Acts old new list list pass pass2 who y (f v)) (sym same)
+    (acts list))
+acts_by {A} {E} old new pass pass2 who f (Err b) x {d} {e} same is acts =
+    subst (λ (y : Result (Option Told) E). IfOk y (λ o. (list : List Entry)
+    → Acts old new list list pass pass2 who d o)) (sym is) tt
+
+-- what a call on the inode left when memory ran out, the deed left
+pub stays_by : {A E : Type 0} (S : Type 0) (f : A → Option Told) (r : Result A E)
+    (x : Result (Option Told) E) → x ≡ answer_by f r → OnErr r S → OnErr x S
+stays_by {A} {E} S f (Ok v) x is stays =
+    subst (λ (y : Result (Option Told) E). OnErr y S) (sym is) tt
+stays_by {A} {E} S f (Err b) x is stays =
+    subst (λ (y : Result (Option Told) E). OnErr y S) (sym is) stays
 
 module _ (old new : CellValue) (list list2 : List Entry) (pass pass2 : Passed Event) (who : Who)
     (d : Deed) where
@@ -115,3 +140,31 @@ pub told_at : {E : Type 0} (inode : Inode) (journal : List Event) (d : Deed)
     → (list : List Entry) → IfOk r (λ o. o ≡ outcome inode list d (newest_first journal))
 told_at inode journal d (Ok o) a list = a list
 told_at inode journal d (Err x) a list = tt
+
+-- the outcome of what was done is the deed's
+pub told_acts : {E : Type 0} (old new : CellValue) (list list2 : List Entry)
+    (pass pass2 : Passed Event) (who : Who) (d : Deed) (r : Result (Option Told) E)
+    → IfOk r (λ o. Acts old new list list2 pass pass2 who d o)
+    → IfOk r (λ o. o ≡ outcome old.inode list d (newest_first old.list))
+told_acts old new list list2 pass pass2 who d (Ok o) a = a.told
+told_acts old new list list2 pass pass2 who d (Err x) a = tt
+
+-- the same for every measurement list
+pub told_alone : {E : Type 0} (old new : CellValue) (pass pass2 : Passed Event) (who : Who)
+    (d : Deed) (r : Result (Option Told) E)
+    → IfOk r (λ o. (list : List Entry) → Acts old new list list pass pass2 who d o)
+    → IfOk r (λ o. (list : List Entry) → o ≡ outcome old.inode list d (newest_first old.list))
+told_alone old new pass pass2 who d (Ok o) a = λ list. (a list).told
+told_alone old new pass pass2 who d (Err x) a = tt
+
+-- what the task has hashed after the deed, whatever its outcome
+pub hashes_told : {E : Type 0} (inode : Inode) (list : List Event) (g g2 : HashState) (d : Deed)
+    (r : Result (Option Told) E) → IfOk r (λ o. HashesTold inode list g g2 d o)
+    → OnErr r (g2 ≡ g) → HashesTold inode list g g2 d (told_in r)
+hashes_told inode list g g2 d (Ok o) a e = a
+hashes_told inode list g g2 d (Err x) a e = e
+
+-- a proposition that holds in any case holds of an error
+pub on_err : {A E : Type 0} (r : Result A E) (P : Type 0) → P → OnErr r P
+on_err (Ok x) P p = tt
+on_err (Err e) P p = p

@@ -21,6 +21,11 @@ abbrev pub told_by : {A E : Type 0} → (A → Told) → Result A E → Option T
 told_by f (Ok a) = Some (f a)
 told_by f (Err e) = None
 
+-- the answer to a deed, by what its call on the inode returned
+abbrev pub answer_by : {A E : Type 0} → (A → Option Told) → Result A E → Result (Option Told) E
+answer_by f (Ok a) = Ok (f a)
+answer_by f (Err e) = Err e
+
 -- journal, measurement list and pass have exactly the entries that a deed with this outcome adds
 pub record Leaves (old new : CellValue) (list list2 : List Entry) (pass pass2 : Passed Event)
     (who : Who) (d : Deed) (o : Option Told) : Type 0 where
