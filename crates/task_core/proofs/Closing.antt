@@ -1,5 +1,5 @@
 -- A world is taken apart at its end.
-use Rattle.std.proofs.Common.{◌≡◌, ℕ, ◌-◌, ◌&&◌, Bool, false, List, length, ap, sym, ◌∙◌, subst, arith, Some}
+use Rattle.std.proofs.Common.{◌≡◌, ◌≤◌, ℕ, ◌-◌, ◌&&◌, Bool, false, List, length, ap, sym, ◌∙◌, subst, arith, Some}
 use Rattle.std.specs.Prelude.{map, not, slice_get}
 use Rattle.std.specs.List.{list_any}
 use Rattle.std.proofs.lemmas.List.{length-map}
@@ -85,6 +85,11 @@ module _ (settings : Settings) (world_inodes : List WorldInodeValue) (supers : L
 pub base_is : (p : PolicyValue) (n m : ℕ) → n ≡ length (in_force p)
     → m ≡ length p.appended.list → n - m ≡ length p.base
 base_is p n m all own = omega (arith, all, own, force_count p)
+
+-- no more rules were appended than are in force
+pub fewer_own : (p : PolicyValue) (n m : ℕ) → n ≡ length (in_force p)
+    → m ≡ length p.appended.list → m ≤ n
+fewer_own p n m all own = omega (arith, all, own, force_count p)
 
 -- ---- the tasks
 

@@ -1,6 +1,6 @@
 -- How a turn ends on a world that threads share.
 use Rattle.std.proofs.Common.{◌≡◌, ℕ, false, Option, Some, None, refl, sym, ◌∙◌, ap, subst}
-use Rattle.std.specs.Prelude.{OnErr, Result, Ok, Err, slice_get}
+use Rattle.std.specs.Prelude.{IfOk, OnErr, Result, Ok, Err, slice_get}
 use Rattle.call_steps.specs.CallState.{Step}
 use Rattle.call_steps.specs.CallState.{Appends, Checks, Does, Nothing, Signals}
 use Rattle.inode_events.specs.declared.deed.Deed.{Deed}
@@ -11,12 +11,12 @@ use Rattle.inode_meta.specs.declared.appraisal.Mode.{Mode}
 use Rattle.policy_rules.specs.RuleValue.{RuleValue}
 use Rattle.run_model.specs.History.{step_at, who_at}
 use Rattle.run_model.specs.Rounds.{is_moved}
-use Rattle.run_model.specs.Turns.{State, Turned, step_due, step_task}
+use Rattle.run_model.specs.Turns.{State, Turned, step_task}
 use Rattle.run_model.specs.declared.turn.Turn.{Turn}
 use Rattle.run_model.specs.declared.turn.Turn.TheVariants as turns
 use Rattle.task_core.proofs.Blocks.{check_blocks, deed_blocks, err_fails, no_answer, over_ends, signal_blocks, told_moves}
-use Rattle.task_core.proofs.Turns.{appends_fail, appends_turn, check_turn, does_turn, signals_turn, turned_goes}
-use Rattle.task_core.specs.GoesOn.{GoesOn, turn_of}
+use Rattle.task_core.proofs.Turns.{appends_fail, appends_turn, check_turn, does_turn, over_turn, signals_turn, turned_goes}
+use Rattle.task_core.specs.GoesOn.{GoesOn, turn_of, turn_told}
 use Rattle.task_core.specs.Shared.{IsBlockedBy, IsBlockedOn, IsIdle, StepsTo, TurnsToMet}
 use Rattle.world_locks.specs.acts.declared.listed.Checks.{Checks as Asked}
 use Rattle.world_model.specs.WorldConsts.{InodeConsts, WorldConsts, mode_in, scene_of}
@@ -125,6 +125,18 @@ module _ (consts : WorldConsts) (t : Tasked) (passes : PassesValue) (w : Who)
     blocked = λ b. absurd (err_fails e b);
   }
 
+  -- a turn with a rule to append, however it ended
+  pub rule_met : {E : Type 0} (rule : RuleValue) (r : Result StepResult E)
+      (x : Result TurnResult E) → asks ≡ Some (Appends rule)
+      → IfOk r (λ a. AppendsMet t.passes passes (record { who = w; rule = rule }) a)
+      → OnErr r (passes ≡ t.passes) → x ≡ turn_told r → TurnsToMet consts t passes t.hash_state x
+  rule_met {E} rule (Ok a) x st m err is =
+      subst (λ (z : Result TurnResult E). TurnsToMet consts t passes t.hash_state z) (sym is)
+      (appends_told rule a st m)
+  rule_met {E} rule (Err d) x st m err is =
+      subst (λ (z : Result TurnResult E). TurnsToMet consts t passes t.hash_state z) (sym is)
+      (appends_failed d err)
+
 -- a turn with a step that does nothing
 pub nothing_met : {E : Type 0} (consts : WorldConsts) (t : Tasked) (a : StepResult)
     → step_at t.task_state.program t.task_state.position.call_state ≡ Some Nothing → a.place ≡ 0
@@ -143,11 +155,7 @@ pub over_met : {E : Type 0} (consts : WorldConsts) (t : Tasked)
     → TurnsToMet {E = E} consts t t.passes t.hash_state (Ok turn_result.Over)
 over_met consts t st = record {
   old = state_seen t.passes;
-  reaches = record {
-    plays = λ h x. x;
-    goes = λ programs. ap (step_due (scene_of consts programs) t.number t.task_state.program
-        (state_seen t.passes) t.task_state.position) (sym st);
-  };
+  reaches = over_turn consts t (state_seen t.passes) st;
   idle = λ idle. refl;
   blocked = λ b. absurd (over_ends b);
 }

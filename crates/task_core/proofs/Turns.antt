@@ -1,6 +1,6 @@
 -- What a task can rely on at its turn, and its state after the turn.
 use Rattle.std.proofs.Common.{◌≡◌, ℕ, ◌+◌, List, ◌∷◌, length, Option, Some, None, refl, sym, ◌∙◌, ap, subst}
-use Rattle.std.specs.Prelude.{IfOk, Result, Ok, slice_get, unwrap_or}
+use Rattle.std.specs.Prelude.{IfOk, OnErr, OnOk, Result, Ok, Err, slice_get, unwrap_or}
 use Rattle.call_steps.specs.CallState.{Step}
 use Rattle.call_steps.specs.CallState.{Appends, Checks, Does, Signals}
 use Rattle.call_steps.specs.Steps.{given}
@@ -19,9 +19,9 @@ use Rattle.policy_rules.specs.RuleValue.{RuleValue}
 use Rattle.policy_rules.specs.declared.rule.Func.{Func}
 use Rattle.run_model.specs.History.{Answer, Position, resume, step_at, who_at}
 use Rattle.run_model.specs.Scene.{Program}
-use Rattle.run_model.specs.Turns.{State}
+use Rattle.run_model.specs.Turns.{State, step_due}
 use Rattle.run_model.specs.declared.turn.Turn.TheVariants as turns
-use Rattle.world_model.specs.WorldConsts.{WorldConsts, inode_in, mode_in}
+use Rattle.world_model.specs.WorldConsts.{WorldConsts, inode_in, mode_in, scene_of}
 use Rattle.world_model.specs.Tasks.{ArePassesOf, HasPlayed, IsTask, PassesValue, Tasked}
 use Rattle.world_model.specs.declared.hash_state.HashState.{HashState}
 use Rattle.world_locks.proofs.about_worlds.Blocking.{task_of_who}
@@ -39,7 +39,7 @@ use Rattle.world_locks.proofs.about_acts.Sharing.{appends_tells, signals_reach}
 use Rattle.world_locks.specs.acts.Acting.{EventIn, IsPlacedAt, IsSaid, ReadyAt, told_in, told_of}
 use Rattle.world_locks.specs.acts.Checking.{CheckIn}
 use Rattle.world_locks.specs.acts.Sharing.{AppendsTo, SignalsOn}
-use Rattle.task_core.specs.GoesOn.{GoesOn, turn_of}
+use Rattle.task_core.specs.GoesOn.{GoesOn, turn_of, turn_told}
 use Rattle.world_locks.specs.acts.Turning.{Fails, Goes, StillPlays, Stops, Tells, TurnsTo, answer_of, turn_result_of, turned_to}
 use Rattle.world_locks.specs.acts.declared.answers.StepResult.{StepResult}
 use Rattle.world_locks.specs.acts.declared.answers.TurnResult.{TurnResult}
@@ -230,6 +230,30 @@ module _ (consts : WorldConsts) (t : Tasked) (old new : State) (passes : PassesV
       → Fails consts t old new passes t.hash_state
   appends_fail e =
       record { plays = same_left consts t passes t.hash_state e.1 refl; state = e.0 }
+
+  -- a turn with a rule to append, however it ended
+  pub rule_turn : {E : Type 0} (rule : RuleValue) (r : Result StepResult E)
+      (x : Result TurnResult E) → asks ≡ Some (Appends rule)
+      → OnOk r (AppendsTo old new t.passes passes (record { who = w; rule = rule }))
+      → IfOk r (λ a. (a.place ≡ length old.added) × (a.told ≡ told.Done) × (a.action ≡ None))
+      → OnErr r ((new ≡ old) × (passes ≡ t.passes)) → x ≡ turn_told r
+      → TurnsTo consts t old new passes t.hash_state x
+  rule_turn {E} rule (Ok a) x st e said err is =
+      subst (λ (z : Result TurnResult E). TurnsTo consts t old new passes t.hash_state z) (sym is)
+      (appends_turn rule a st e said)
+  rule_turn {E} rule (Err d) x st e said err is =
+      subst (λ (z : Result TurnResult E). TurnsTo consts t old new passes t.hash_state z) (sym is)
+      (appends_fail err)
+
+-- a turn of a program that is over
+pub over_turn : (consts : WorldConsts) (t : Tasked) (old : State)
+    → None ≡ step_at t.task_state.program t.task_state.position.call_state
+    → Stops consts t old old t.passes t.hash_state turns.Done
+over_turn consts t old st = record {
+  plays = λ h x. x;
+  goes = λ programs. ap (step_due (scene_of consts programs) t.number t.task_state.program
+      old t.task_state.position) (sym st);
+}
 
 -- ---- the task after the turn
 

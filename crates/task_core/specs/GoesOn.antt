@@ -1,5 +1,5 @@
 -- How a task goes on after its turn.
-use Rattle.std.specs.Prelude.{◌≡◌, ℕ, unwrap_or}
+use Rattle.std.specs.Prelude.{◌≡◌, ℕ, Result, Ok, Err, unwrap_or}
 use Rattle.inode_meta.specs.declared.appraisal.Mode.{Mode}
 use Rattle.run_model.specs.History.{resume}
 use Rattle.run_model.specs.declared.turn.Turn.{Turn}
@@ -15,6 +15,11 @@ abbrev pub turn_of : TurnResult → Turn
 turn_of turn_result.Over = turns.Done
 turn_of turn_result.Blocked = turns.Blocked
 turn_of (turn_result.Told a) = turns.Moved
+
+-- how the turn of a step that can't be blocked ended
+abbrev pub turn_told : {E : Type 0} → Result StepResult E → Result TurnResult E
+turn_told (Ok a) = Ok (turn_result.Told a)
+turn_told (Err e) = Err e
 
 -- the task took this answer
 pub record Resumes (mode : Mode) (old new : TaskValue) (a : StepResult) : Type 0 where

@@ -42,17 +42,28 @@ pub fn look_all(world: &mut World, tasks: &mut Vec<Task>)
     }
 }
 
+// Whether each task is done.
 fn are_done(tasks: &[Task]) -> bool
     ensures { result ≡ list_all done_by tasks.now }
 {
-    tasks.iter().all(|task| task.task_state.is_done())
+    for task in tasks {
+        if !task.task_state.is_done() {
+            return false;
+        }
+    }
+    true
 }
 
 // Whether no task can go on.
 fn all_rest(tasks: &[Task], sems: &SemaphoreCell) -> bool
     ensures { result ≡ list_all (rests (λ sem. left sem (newest_first sems.now.list))) tasks.now }
 {
-    tasks.iter().all(|task| rests(&task.task_state, sems))
+    for task in tasks {
+        if !rests(&task.task_state, sems) {
+            return false;
+        }
+    }
+    true
 }
 
 // Whether some task isn't done, and none can go on.
@@ -66,7 +77,12 @@ fn are_stuck(tasks: &[Task], sems: &SemaphoreCell) -> bool
 fn may_grow(tasks: &[Task]) -> bool
     ensures { result ≡ list_any may_append tasks.now }
 {
-    tasks.iter().any(|task| task.task_state.appends())
+    for task in tasks {
+        if task.task_state.appends() {
+            return true;
+        }
+    }
+    false
 }
 
 impl Task {

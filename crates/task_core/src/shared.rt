@@ -10,14 +10,14 @@ ghost use Rattle.world_locks.specs.Met.{mines_of};
 
 use crate::live::Live;
 use crate::task::Task;
-use crate::turning::{go_on, slot_due};
+use crate::turning::{actor_of, go_on, turn_told};
 use inode_events::{Deed, Told};
 use run_model::Turn;
 use std::alloc::AllocError as OutOfMemory;
 use std::sync::Wait;
 use task_state::{Step, TaskState};
 use world_locks::Name;
-use world_locks::acts::{Actor, Checks, StepResult, TurnResult, turn_result_of};
+use world_locks::acts::{Checks, StepResult, TurnResult, turn_result_of};
 use world_model::{HashState, Passes};
 
 impl<N: Name> Live<N> {
@@ -43,13 +43,7 @@ impl<N: Name> Live<N> {
           passes = passes.old;
         }) passes.new hash_state.new result }
     {
-        let who = task_state.who(number);
-        let actor = Actor {
-            who,
-            cred: task_state.cred(),
-            action: task_state.checked(),
-            slot: slot_due(task_state),
-        };
+        let actor = actor_of(task_state, number);
         let locks = &self.locks;
         match task_state.next() {
             None => Ok(TurnResult::Over),
@@ -78,19 +72,18 @@ impl<N: Name> Live<N> {
             Some(Step::Posts(sem)) => turn_result_of(locks.lock_and_signal(
                 rt,
                 passes,
-                who,
+                actor.who,
                 Deed::Post(sem),
             )),
             Some(Step::Waits(sem)) => turn_result_of(locks.lock_and_signal(
                 rt,
                 passes,
-                who,
+                actor.who,
                 Deed::Wait(sem),
             )),
-            Some(Step::Appends(rule)) => match locks.lock_and_append(rt, passes, who, rule) {
-                Ok(answered) => Ok(TurnResult::Told(answered)),
-                Err(err) => Err(err),
-            },
+            Some(Step::Appends(rule)) => {
+                turn_told(locks.lock_and_append(rt, passes, actor.who, rule))
+            }
         }
     }
 }

@@ -1,9 +1,10 @@
 //! The turn of a task.
 
 ghost use Rattle.std.specs.Prelude.{◌≡◌, ◌≤◌, List, IfOk, OnErr};
+ghost use Rattle.run_model.specs.History.{who_at};
 ghost use Rattle.run_model.specs.Scene.{Program};
 ghost use Rattle.run_model.specs.Turns.{step_task};
-ghost use Rattle.task_core.specs.GoesOn.{GoesOn, turn_of};
+ghost use Rattle.task_core.specs.GoesOn.{GoesOn, turn_of, turn_told};
 ghost use Rattle.world_locks.specs.acts.Turning.{TurnsTo, turned_to};
 ghost use Rattle.world_model.specs.WorldConsts.{scene_of};
 ghost use Rattle.world_model.specs.Tasks.{IsTask};
@@ -22,12 +23,41 @@ use world_locks::acts::{Actor, Checks, StepResult, TurnResult, turn_result_of};
 use world_model::{HashState, Passes};
 
 // The slot of a take, if one is due.
-pub(crate) fn slot_due(task_state: &TaskState) -> Slot
+fn slot_due(task_state: &TaskState) -> Slot
     ensures { result ≡ slot_in (due_at task_state.now.program task_state.now.position.call_state) }
 {
     match task_state.due() {
         Some(Ask::Take { slot }) => slot,
         _ => Slot::File,
+    }
+}
+
+// What the task of this number knows about itself at its next step.
+pub(crate) fn actor_of(task_state: &TaskState, number: u32) -> Actor<'_>
+    ensures who { result.who
+        ≡ who_at number task_state.now.program task_state.now.position.call_state }
+    ensures cred { result.cred.now ≡ task_state.now.program.cred }
+    ensures action { result.action ≡ task_state.now.checked }
+    ensures slot { result.slot
+        ≡ slot_in (due_at task_state.now.program task_state.now.position.call_state) }
+{
+    Actor {
+        who: task_state.who(number),
+        cred: task_state.cred(),
+        action: task_state.checked(),
+        slot: slot_due(task_state),
+    }
+}
+
+// The turn of a step that can't be blocked.
+pub(crate) fn turn_told(
+    answered: Result<StepResult, OutOfMemory>,
+) -> Result<TurnResult, OutOfMemory>
+    ensures { result ≡ turn_told answered }
+{
+    match answered {
+        Ok(answered) => Ok(TurnResult::Told(answered)),
+        Err(err) => Err(err),
     }
 }
 
@@ -76,13 +106,7 @@ impl World {
           passes = passes.old;
         }) self.old.state self.new.state passes.new hash_state.new result }
     {
-        let who = task_state.who(number);
-        let actor = Actor {
-            who,
-            cred: task_state.cred(),
-            action: task_state.checked(),
-            slot: slot_due(task_state),
-        };
+        let actor = actor_of(task_state, number);
         match task_state.next() {
             None => Ok(TurnResult::Over),
             Some(Step::Nothing) => Ok(TurnResult::Told(StepResult {
@@ -101,12 +125,17 @@ impl World {
                     mask,
                 },
             ) => turn_result_of(self.check(inode, passes, &actor, Checks { file, func, mask })),
-            Some(Step::Posts(sem)) => turn_result_of(self.signal(passes, who, Deed::Post(sem))),
-            Some(Step::Waits(sem)) => turn_result_of(self.signal(passes, who, Deed::Wait(sem))),
-            Some(Step::Appends(rule)) => match self.append(passes, who, rule) {
-                Ok(answered) => Ok(TurnResult::Told(answered)),
-                Err(err) => Err(err),
-            },
+            Some(Step::Posts(sem)) => turn_result_of(self.signal(
+                passes,
+                actor.who,
+                Deed::Post(sem),
+            )),
+            Some(Step::Waits(sem)) => turn_result_of(self.signal(
+                passes,
+                actor.who,
+                Deed::Wait(sem),
+            )),
+            Some(Step::Appends(rule)) => turn_told(self.append(passes, actor.who, rule)),
         }
     }
 }

@@ -1,5 +1,5 @@
 -- The final state of the closed lists and the tasks.
-use Rattle.std.proofs.Common.{◌∙◌, List, length, refl, subst, ap, arith}
+use Rattle.std.proofs.Common.{◌∙◌, ◌≤◌, List, length, refl, subst, ap, arith}
 use Rattle.std.specs.List.{list_any}
 use Rattle.std.proofs.lemmas.List.{length-map}
 use Rattle.std.proofs.lemmas.Result.{err_from_is_err_and}
@@ -12,7 +12,7 @@ use Rattle.world_model.specs.Tasks.{PassesValue, Tasked}
 use Rattle.world_model.specs.World.{WorldValue}
 use Rattle.world_close.specs.Closed.{AreSpares, ListsValue, WorldClosed}
 use Rattle.world_close.specs.Leaves.{are_stuck, may_append}
-use Rattle.task_core.proofs.Closing.{are_rules, are_signals, are_world_inodes, base_is, ended_by, is_book, passes_are}
+use Rattle.task_core.proofs.Closing.{are_rules, are_signals, are_world_inodes, base_is, ended_by, fewer_own, is_book, passes_are}
 use Rattle.task_core.proofs.close.end.Goals as goal
 
 -- the requires, in order: inodes, book, sems, rules, spares, count, passes
@@ -46,6 +46,22 @@ close_lists-requires g c =
         ),
       ),
     )
+
+pub overflow_sub-base : goal.overflow_sub-base
+overflow_sub-base g c =
+    let w = c.world.inside.parts in
+    let own = ap (λ (l : ListsValue). l.rules) c.lists.view_is ∙ c.in_ok-lists.ensures.rules in
+    let force = c.rules-in_force.ensures.rules ∙ c.rules.ensures in
+    let fewer : c.len.result ≤ length c.rules-in_force.result.now =
+    fewer_own w.rules (length c.rules-in_force.result.now) c.len.result
+    (ap (λ (l : List RuleValue). length l) force)
+    (omega (
+      arith,
+      c.len.ensures,
+      c.lists.inside.rules.ok,
+      ap (λ (l : List RuleEntry). length l) own,
+    )) in
+    omega (arith, fewer)
 
 pub returns-in_err-lists : goal.returns-in_err-lists
 returns-in_err-lists g c =

@@ -6,7 +6,7 @@ use Rattle.run_model.specs.History.{step_at}
 use Rattle.world_model.specs.Tasks.{Tasked}
 use Rattle.task_state.specs.Steps.{deed_in}
 use Rattle.task_state.specs.declared.step.Step.TheVariants as step
-use Rattle.task_core.proofs.SharedSteps.{appends_failed, appends_told, checks_met, does_met, nothing_met, over_met, signals_met}
+use Rattle.task_core.proofs.SharedSteps.{checks_met, does_met, nothing_met, over_met, rule_met, signals_met}
 use Rattle.task_core.proofs.Turns.{checks_ready, does_ready, due_is, passes_ready}
 use Rattle.task_core.proofs.live.Live.try_step.Goals as goal
 
@@ -19,7 +19,7 @@ lock_and_apply-requires-clause-passes g c =
       hash_state = c.args.hash_state.now;
       passes = c.args.passes.now;
     } in
-    λ κs out. passes_ready g.N.Name.consts t c.requires c.who-who.result c.who-who.ensures
+    λ κs out. passes_ready g.N.Name.consts t c.requires c.actor_of-actor.result.who c.actor_of-actor.ensures.who
 
 pub lock_and_apply-requires-clause-ready : goal.lock_and_apply-requires-clause-ready
 lock_and_apply-requires-clause-ready g c =
@@ -34,10 +34,10 @@ lock_and_apply-requires-clause-ready g c =
     c.in-Some-Does.field-0
     (step.Does c.in-Some-Does.inode c.in-Some-Does.due) c.in-Some-Does.field-0-is
     c.in-Some-Does.ensures in
-    λ κs out. does_ready g.N.Name.consts t c.requires c.who-who.result c.checked.result
-    c.slot_due.result c.in-Some-Does.inode (deed_in c.in-Some-Does.due) c.who-who.ensures
-    c.checked.ensures
-    c.slot_due.ensures st
+    λ κs out. does_ready g.N.Name.consts t c.requires c.actor_of-actor.result.who c.actor_of-actor.result.action
+    c.actor_of-actor.result.slot c.in-Some-Does.inode (deed_in c.in-Some-Does.due) c.actor_of-actor.ensures.who
+    c.actor_of-actor.ensures.action
+    c.actor_of-actor.ensures.slot st
 
 pub lock_and_check-requires-clause-passes : goal.lock_and_check-requires-clause-passes
 lock_and_check-requires-clause-passes g c =
@@ -48,7 +48,7 @@ lock_and_check-requires-clause-passes g c =
       hash_state = c.args.hash_state.now;
       passes = c.args.passes.now;
     } in
-    λ κs out. passes_ready g.N.Name.consts t c.requires c.who-who.result c.who-who.ensures
+    λ κs out. passes_ready g.N.Name.consts t c.requires c.actor_of-actor.result.who c.actor_of-actor.ensures.who
 
 pub lock_and_check-requires-clause-ready : goal.lock_and_check-requires-clause-ready
 lock_and_check-requires-clause-ready g c =
@@ -64,10 +64,10 @@ lock_and_check-requires-clause-ready g c =
     (step.Checks c.in-Some-Checks.inode c.in-Some-Checks.file c.in-Some-Checks.func
     c.in-Some-Checks.mask) c.in-Some-Checks.field-0-is
     c.in-Some-Checks.ensures in
-    λ κs out. checks_ready g.N.Name.consts t c.requires c.who-who.result c.checked.result
-    c.slot_due.result c.in-Some-Checks.inode c.in-Some-Checks.file c.in-Some-Checks.func
-    c.in-Some-Checks.mask c.who-who.ensures c.checked.ensures
-    c.slot_due.ensures st
+    λ κs out. checks_ready g.N.Name.consts t c.requires c.actor_of-actor.result.who c.actor_of-actor.result.action
+    c.actor_of-actor.result.slot c.in-Some-Checks.inode c.in-Some-Checks.file c.in-Some-Checks.func
+    c.in-Some-Checks.mask c.actor_of-actor.ensures.who c.actor_of-actor.ensures.action
+    c.actor_of-actor.ensures.slot st
 
 pub lock_and_signal-requires-after_bounds : goal.lock_and_signal-requires-after_bounds
 lock_and_signal-requires-after_bounds g c =
@@ -78,7 +78,7 @@ lock_and_signal-requires-after_bounds g c =
       hash_state = c.args.hash_state.now;
       passes = c.args.passes.now;
     } in
-    λ κs out. passes_ready g.N.Name.consts t c.requires c.who-who.result c.who-who.ensures
+    λ κs out. passes_ready g.N.Name.consts t c.requires c.actor_of-actor.result.who c.actor_of-actor.ensures.who
 
 pub lock_and_signal-requires-in-Some-Waits-after_bounds : goal.lock_and_signal-requires-in-Some-Waits-after_bounds
 lock_and_signal-requires-in-Some-Waits-after_bounds g c =
@@ -89,7 +89,7 @@ lock_and_signal-requires-in-Some-Waits-after_bounds g c =
       hash_state = c.args.hash_state.now;
       passes = c.args.passes.now;
     } in
-    λ κs out. passes_ready g.N.Name.consts t c.requires c.who-who.result c.who-who.ensures
+    λ κs out. passes_ready g.N.Name.consts t c.requires c.actor_of-actor.result.who c.actor_of-actor.ensures.who
 
 pub lock_and_append-requires-after_bounds : goal.lock_and_append-requires-after_bounds
 lock_and_append-requires-after_bounds g c =
@@ -100,7 +100,7 @@ lock_and_append-requires-after_bounds g c =
       hash_state = c.args.hash_state.now;
       passes = c.args.passes.now;
     } in
-    λ κs out. passes_ready g.N.Name.consts t c.requires c.who-who.result c.who-who.ensures
+    λ κs out. passes_ready g.N.Name.consts t c.requires c.actor_of-actor.result.who c.actor_of-actor.ensures.who
 
 pub returns-in-None : goal.returns-in-None
 returns-in-None g c =
@@ -141,7 +141,7 @@ returns-in-Some-Does g c =
     c.in-Some-Does.field-0
     (step.Does c.in-Some-Does.inode c.in-Some-Does.due) c.in-Some-Does.field-0-is
     c.in-Some-Does.ensures in
-    does_met g.N.Name.consts t c.lock_and_apply.new.passes c.who-who.result c.who-who.ensures
+    does_met g.N.Name.consts t c.lock_and_apply.new.passes c.actor_of-actor.result.who c.actor_of-actor.ensures.who
     c.in-Some-Does.inode
     (deed_in c.in-Some-Does.due)
     c.lock_and_apply.new.hash_state c.lock_and_apply.result c.turn_result_of.result st
@@ -161,15 +161,15 @@ returns-in-Some-Checks g c =
     (step.Checks c.in-Some-Checks.inode c.in-Some-Checks.file c.in-Some-Checks.func
     c.in-Some-Checks.mask) c.in-Some-Checks.field-0-is
     c.in-Some-Checks.ensures in
-    checks_met g.N.Name.consts t c.lock_and_check.new.passes c.who-who.result c.who-who.ensures
+    checks_met g.N.Name.consts t c.lock_and_check.new.passes c.actor_of-actor.result.who c.actor_of-actor.ensures.who
     c.in-Some-Checks.inode
     (record {
       file = c.in-Some-Checks.file;
       func = c.in-Some-Checks.func;
       mask =
           c.in-Some-Checks.mask;
-    }) c.cred.result.now
-    c.lock_and_check.result c.turn_result_of-in-Some-Checks.result st c.cred.ensures
+    }) c.actor_of-actor.result.cred.now
+    c.lock_and_check.result c.turn_result_of-in-Some-Checks.result st c.actor_of-actor.ensures.cred
     c.lock_and_check.ensures c.turn_result_of-in-Some-Checks.ensures
 
 pub returns-in-Some-Posts : goal.returns-in-Some-Posts
@@ -184,7 +184,7 @@ returns-in-Some-Posts g c =
     let st = due_is (step_at t.task_state.program t.task_state.position.call_state)
     c.in-Some-Posts.field-0 (step.Posts c.in-Some-Posts.sem) c.in-Some-Posts.field-0-is
     c.in-Some-Posts.ensures in
-    signals_met g.N.Name.consts t c.lock_and_signal.new.passes c.who-who.result c.who-who.ensures
+    signals_met g.N.Name.consts t c.lock_and_signal.new.passes c.actor_of-actor.result.who c.actor_of-actor.ensures.who
     (deed.Post c.in-Some-Posts.sem)
     c.lock_and_signal.result
     c.turn_result_of-in-Some-Posts.result st c.lock_and_signal.ensures
@@ -203,13 +203,13 @@ returns-in-Some-Waits g c =
     c.in-Some-Waits.field-0 (step.Waits c.in-Some-Waits.sem) c.in-Some-Waits.field-0-is
     c.in-Some-Waits.ensures in
     signals_met g.N.Name.consts t
-    c.lock_and_signal-in-Some-Waits.new.passes c.who-who.result c.who-who.ensures
+    c.lock_and_signal-in-Some-Waits.new.passes c.actor_of-actor.result.who c.actor_of-actor.ensures.who
     (deed.Wait c.in-Some-Waits.sem) c.lock_and_signal-in-Some-Waits.result
     c.turn_result_of-in-Some-Waits.result st c.lock_and_signal-in-Some-Waits.ensures
     c.turn_result_of-in-Some-Waits.ensures
 
-pub returns-in-Ok : goal.returns-in-Ok
-returns-in-Ok g c =
+pub returns-in-Some-Appends : goal.returns-in-Some-Appends
+returns-in-Some-Appends g c =
     let t : Tasked =
     record {
       number = c.args.number;
@@ -218,21 +218,9 @@ returns-in-Ok g c =
       passes = c.args.passes.now;
     } in
     let st = due_is (step_at t.task_state.program t.task_state.position.call_state)
-    c.in-Some-Appends.field-0 (step.Appends c.in-Some-Appends.rule) c.in-Some-Appends.field-0-is
-    c.in-Some-Appends.ensures in
-    appends_told g.N.Name.consts t
-    c.lock_and_append.new.passes c.who-who.result c.who-who.ensures c.in-Some-Appends.rule.now
-    c.in-Ok.answered st
-    c.in-Ok.ensures.appends
-
-pub returns-in-Err : goal.returns-in-Err
-returns-in-Err g c =
-    let t : Tasked =
-    record {
-      number = c.args.number;
-      task_state = c.args.task_state.now;
-      hash_state = c.args.hash_state.now;
-      passes = c.args.passes.now;
-    } in
-    appends_failed g.N.Name.consts t
-    c.lock_and_append.new.passes c.who-who.result c.who-who.ensures c.in-Err.err c.in-Err.ensures.err
+    c.in-Some-Appends.field-0
+    (step.Appends c.in-Some-Appends.rule) c.in-Some-Appends.field-0-is c.in-Some-Appends.ensures in
+    rule_met g.N.Name.consts t c.lock_and_append.new.passes c.actor_of-actor.result.who
+    c.actor_of-actor.ensures.who c.in-Some-Appends.rule.now c.lock_and_append.result
+    c.turn_told.result st c.lock_and_append.ensures.appends c.lock_and_append.ensures.err
+    c.turn_told.ensures
