@@ -1,5 +1,6 @@
 use Rattle.std.proofs.Common.{◌+◌, ◌-◌, arith, refl}
 use Rattle.std.specs.Prelude.{max}
+use Rattle.std.proofs.lemmas.Result.{err_from_is_err_and}
 use Rattle.world_start.proofs.Fresh.{below_max, fresh_all, fresh_as, fresh_drop, fresh_take}
 use Rattle.world_start.proofs.cells.start_rules.Goals as goal
 
@@ -46,3 +47,44 @@ returns-clause-spares c =
     fresh_as name (λ k. c.args.tasks + (c.args.count + k)) (λ k. c.args.tasks + c.args.count + k)
     (max 1 (c.args.tasks + c.args.count) - (c.args.tasks + c.args.count))
     c.in_ok-spares.spares.items (λ k. omega arith) after
+
+pub returns-in_err-rules : goal.returns-in_err-rules
+returns-in_err-rules c =
+    let p = err_from_is_err_and c.from_residual.result c.from_residual.ensures.1 in
+    rw (p.1) (record {
+      base = tt;
+      added = tt;
+      numbers = tt;
+      appended = tt;
+      rule_passes = tt;
+      task_appenders = tt;
+      spares = tt;
+    })
+
+pub returns-in_err-rule_passes : goal.returns-in_err-rule_passes
+returns-in_err-rule_passes c =
+    let p = err_from_is_err_and c.from_residual-in_err-rule_passes.result
+    c.from_residual-in_err-rule_passes.ensures.1 in
+    rw (p.1) (record {
+      base = tt;
+      added = tt;
+      numbers = tt;
+      appended = tt;
+      rule_passes = tt;
+      task_appenders = tt;
+      spares = tt;
+    })
+
+pub returns-in_err-spares : goal.returns-in_err-spares
+returns-in_err-spares c =
+    let p = err_from_is_err_and c.from_residual-in_err-spares.result
+    c.from_residual-in_err-spares.ensures.1 in
+    rw (p.1) (record {
+      base = tt;
+      added = tt;
+      numbers = tt;
+      appended = tt;
+      rule_passes = tt;
+      task_appenders = tt;
+      spares = tt;
+    })

@@ -1,4 +1,5 @@
 use Rattle.std.proofs.Common.{List, length, ap, subst, sym, ◌∙◌}
+use Rattle.std.proofs.lemmas.Result.{err_from_is_err_and}
 use Rattle.grow_list.specs.Shown.{Passed}
 use Rattle.inode_events.specs.declared.told.Event.{Event}
 use Rattle.world_start.specs.Started.{AreRows}
@@ -28,3 +29,13 @@ returns-clause-book c = c.in_ok-passes.ensures.book ∙ c.new-columns.ensures.bo
 
 pub returns-clause-rules : goal.returns-clause-rules
 returns-clause-rules c = c.in_ok-passes.ensures.rules ∙ c.new-columns.ensures.rules
+
+pub returns-in_err-world_inodes : goal.returns-in_err-world_inodes
+returns-in_err-world_inodes c =
+    let p = err_from_is_err_and c.from_residual.result c.from_residual.ensures.1 in
+    rw (p.1) (record { world_inodes = tt; rows = tt; sems = tt; book = tt; rules = tt })
+
+pub returns-in_err-passes : goal.returns-in_err-passes
+returns-in_err-passes c =
+    let p = err_from_is_err_and c.from_residual-in_err-passes.result c.from_residual-in_err-passes.ensures.1 in
+    rw (p.1) (record { world_inodes = tt; rows = tt; sems = tt; book = tt; rules = tt })

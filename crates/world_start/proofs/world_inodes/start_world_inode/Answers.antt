@@ -1,5 +1,6 @@
 use Rattle.std.proofs.Common.{ℕ, [], ◌∷◌, List, length, sym, ap, ◌∙◌, arith}
 use Rattle.std.specs.Prelude.{slice_get}
+use Rattle.std.proofs.lemmas.Result.{err_from_is_err_and}
 use Rattle.grow_list.specs.Shown.{Passed}
 use Rattle.inode_events.specs.Inode.{Inode}
 use Rattle.inode_events.specs.declared.told.Event.{Event}
@@ -37,3 +38,44 @@ returns-clause-listed c =
 
 pub returns-clause-given : goal.returns-clause-given
 returns-clause-given c = c.in_ok-share_out.ensures.given
+
+pub returns-in_err-copy : goal.returns-in_err-copy
+returns-in_err-copy c =
+    let p = err_from_is_err_and c.from_residual.result c.from_residual.ensures.1 in
+    rw (p.1) (record {
+      world_inode = tt;
+      file = tt;
+      place = tt;
+      listed = tt;
+      counted = tt;
+      count = tt;
+      given = tt;
+    })
+
+pub returns-in_err-cell : goal.returns-in_err-cell
+returns-in_err-cell c =
+    let p = err_from_is_err_and c.from_residual-in_err-cell.result
+    c.from_residual-in_err-cell.ensures.1 in
+    rw (p.1) (record {
+      world_inode = tt;
+      file = tt;
+      place = tt;
+      listed = tt;
+      counted = tt;
+      count = tt;
+      given = tt;
+    })
+
+pub returns-in_err-share_out : goal.returns-in_err-share_out
+returns-in_err-share_out c =
+    let p = err_from_is_err_and c.from_residual-in_err-share_out.result
+    c.from_residual-in_err-share_out.ensures.1 in
+    rw (p.1) (record {
+      world_inode = tt;
+      file = tt;
+      place = tt;
+      listed = tt;
+      counted = tt;
+      count = tt;
+      given = tt;
+    })
