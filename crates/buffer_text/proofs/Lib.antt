@@ -1,2 +1,3 @@
+mod Copies
 pub mod LinesKept
 mod Examples
