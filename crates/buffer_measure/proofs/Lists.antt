@@ -4,7 +4,7 @@ use Rattle.std.specs.Prelude.{All, count_by, nat_lt, slice_get}
 use Rattle.std.specs.List.{AllByRecursion, AllZip, list_any, position, position_or_len, zip}
 use Rattle.std.specs.Option.{option_map}
 use Rattle.std.proofs.lemmas.Bool.{cond-true, eqb-true, lt-ltb, ne_eqb}
-use Rattle.std.proofs.lemmas.List.{get_or_append_left, map-id}
+use Rattle.std.proofs.lemmas.List.{get_or_append_left, map-append, map-id}
 use Rattle.std.proofs.lemmas.List.Quantifiers.{position-Some}
 use Rattle.std.proofs.lemmas.List.Sums.{position_or_len_is}
 use Rattle.std.proofs.lemmas.Option.{get_or_from_slice_get, none-some, same_Some, slice_get-get_or, slice_get-map, slice_get_within}
@@ -40,6 +40,20 @@ mapped_at f xs k y e = mapped_from f (slice_get xs k) y (sym (slice_get-map f xs
 pub mapped : {A B : Type 0} (f : A → B) (xs : List A) (k : ℕ) (x : A) → slice_get xs k ≡ Some x
     → slice_get (map f xs) k ≡ Some (f x)
 mapped f xs k x e = slice_get-map f xs k ∙ ap (option_map f) e
+
+-- one more element at the end of two lists whose images are the same
+pub mapped_alike : {A B C : Type 0} (f : A → C) (g : B → C) (xs more : List A) (ys : List B)
+    (x : A) (y : B) → more ≡ xs ++ x ∷ [] → map f xs ≡ map g ys → f x ≡ g y
+    → map f more ≡ map g (ys ++ y ∷ [])
+mapped_alike f g xs more ys x y pushed alike same =
+    ap (map f) pushed ∙ map-append f xs (x ∷ [])
+    ∙ (λ i. alike i ++ same i ∷ []) ∙ sym (map-append g ys (y ∷ []))
+
+-- the image of one more element is at the end
+pub mapped_more : {A B : Type 0} (f : A → B) (out more : List B) (xs : List A) (x : A)
+    → more ≡ out ++ f x ∷ [] → out ≡ map f xs → more ≡ map f (xs ++ x ∷ [])
+mapped_more {A} {B} f out more xs x pushed so_far =
+    pushed ∙ ap (λ (l : List B). l ++ f x ∷ []) so_far ∙ sym (map-append f xs (x ∷ []))
 
 -- a property of the element at each place holds of all
 pub all_by_get : {A : Type 0} (P : A → Type 0) (xs : List A)

@@ -1,6 +1,6 @@
 //! The callers of a run, each with its own pass of the list.
 
-ghost use Rattle.std.specs.Prelude.{◌≡◌, ◌+◌, ◌<◌, ◌^◌, true, Some, All, IfOk, IfSome, length, map};
+ghost use Rattle.std.specs.Prelude.{◌≡◌, ◌+◌, ◌<◌, ◌^◌, ◌∷◌, ◌++◌, [], true, Some, All, IfOk, IfSome, OnOk, length, map};
 ghost use Rattle.report_text.specs.model.growing.Shown.{fresh};
 ghost use Rattle.buffer_text.specs.Forms.{is_buffer};
 ghost use Rattle.buffer_measure.specs.Workers.{AreDone, AreReady, IsDone, IsReady, IsShared, answers_in, caller_of, pass_of};
@@ -46,15 +46,23 @@ pub fn workers_of(
 {
     let mut workers = Vec::with_capacity(alloc, callers.len())?;
     for (caller, pass) in callers.into_iter().zip(passes) {
-        let BufferCaller { cred, lines } = caller;
-        workers.push(Worker {
-            cred,
-            lines,
-            pass,
-            answers: None,
-        })?;
+        workers.push(worker_of(caller, pass))?;
     }
     Ok(workers)
+}
+
+// The worker before it runs.
+fn worker_of(caller: BufferCaller, pass: Pass<Entry>) -> Worker
+    ensures caller { caller_of result ≡ caller }
+    ensures pass { pass_of result ≡ pass }
+{
+    let BufferCaller { cred, lines } = caller;
+    Worker {
+        cred,
+        lines,
+        pass,
+        answers: None,
+    }
 }
 
 // Measures one buffer: makes it an entry, and adds that to the list under the lock.
@@ -194,17 +202,31 @@ pub fn parted(
     let mut passes = Vec::new(alloc);
     let mut answers = Vec::new(alloc);
     for worker in workers {
-        let Worker {
-            cred: _,
-            lines: _,
-            pass,
-            answers: own,
-        } = worker;
-        let Some(own) = own else {
-            return Err(OutOfMemory);
-        };
-        passes.push(pass)?;
-        answers.push(own)?;
+        part(&mut passes, &mut answers, worker)?;
     }
     Ok((passes, answers))
+}
+
+// Appends the worker's pass and answers.
+fn part(
+    passes: &mut Vec<Pass<Entry>>,
+    answers: &mut Vec<Answers>,
+    worker: Worker,
+) -> Result<(), OutOfMemory>
+    ensures passes { OnOk result (passes.new.items ≡ passes.old.items ++ pass_of worker ∷ []) }
+    ensures answers { OnOk result (map (λ a. Some a) answers.new.items
+        ≡ map (λ a. Some a) answers.old.items ++ answers_in worker ∷ []) }
+{
+    let Worker {
+        cred: _,
+        lines: _,
+        pass,
+        answers: own,
+    } = worker;
+    let Some(own) = own else {
+        return Err(OutOfMemory);
+    };
+    passes.push(pass)?;
+    answers.push(own)?;
+    Ok(())
 }

@@ -4,6 +4,7 @@ use Rattle.std.proofs.lemmas.Iterator.Adapters.{YieldsList-from_vec}
 use Rattle.std.proofs.lemmas.Iterator.Consumers.{YieldsList-end, YieldsList-from_enumerate, YieldsList-turn}
 use Rattle.std.proofs.lemmas.List.{length_push}
 use Rattle.std.proofs.lemmas.List.FromFn.{length-enumerate_from}
+use Rattle.std.proofs.lemmas.Result.{err_from_is_err_and}
 use Rattle.report_text.specs.model.growing.Shown.{Passed, fresh}
 use Rattle.script_text.specs.steps.templates.declared.entry.Entry.{Entry}
 use Rattle.buffer_measure.specs.Answered.{HaveAnswers}
@@ -45,11 +46,22 @@ returns-in_err-answer-clause-same g c = record {
   number = c.answer_line.ensures.same.number ∙ c.loop-k.invariant.same.number;
 }
 
+pub returns-in_err-answer-clause-answered : goal.returns-in_err-answer-clause-answered
+returns-in_err-answer-clause-answered g c =
+    let p = err_from_is_err_and c.from_residual.result c.from_residual.ensures.1 in
+    rw (p.1) tt
+
 pub returns-in_err-push-clause-same : goal.returns-in_err-push-clause-same
 returns-in_err-push-clause-same g c = record {
   name = c.answer_line.ensures.same.name ∙ c.loop-k.invariant.same.name;
   number = c.answer_line.ensures.same.number ∙ c.loop-k.invariant.same.number;
 }
+
+pub returns-in_err-push-clause-answered : goal.returns-in_err-push-clause-answered
+returns-in_err-push-clause-answered g c =
+    let p = err_from_is_err_and c.from_residual-in_err-push.result
+    c.from_residual-in_err-push.ensures.1 in
+    rw (p.1) tt
 
 pub loop-k-preserved : goal.loop-k-preserved
 loop-k-preserved g c =
