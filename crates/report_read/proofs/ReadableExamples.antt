@@ -14,7 +14,7 @@ use Rattle.report_text.specs.model.events.meta.declared.measurement.Template.The
 use Rattle.report_text.specs.model.registers.declared.banks.Banks.{Banks}
 use Rattle.report_text.specs.model.events.templates.declared.entry.Entry.{Entry}
 use Rattle.report_text.specs.model.steps.declared.reply.Reply.TheVariants as reply
-use Rattle.report_read.specs.ReadBack.{AreRegisters, IsReadable, IsShownEntry, IsShownInode}
+use Rattle.report_read.specs.ReadBack.{AreRegisters, IsReadable, IsShownEntry}
 
 abbrev journal : Inode → List Event
 journal inode =
