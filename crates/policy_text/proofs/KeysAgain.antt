@@ -96,35 +96,41 @@ module _ (s : RuleValue) where
   name_read None e h k = absurd (false≢true h)
   name_read (Some x) e h k = ((and_parts _ _ k).1, rw (e, k) refl)
 
-  uid_read : (o : Option IdTest) → is_some s.uid ≡ false → is_some o ≡ true → if_there is_id o
-      ≡ true → Reads (codes "uid" ++ told id_text o) s (record s { uid = o })
-  uid_read None e h k = absurd (false≢true h)
-  uid_read (Some t) e h k = ((id_again t k).0, rw (sign_again t, e, (id_again t k).1) refl)
+  -- the words of an id key turn the rule into those with its tests
+  abbrev IdRead : Key → (Option IdTest → RuleValue) → Type 0
+  IdRead k set = (o : Option IdTest) → (row k).is_in s ≡ false → is_some o ≡ true
+      → if_there is_id o ≡ true → Reads ((row k).name ++ told id_text o) s (set o)
 
-  euid_read : (o : Option IdTest) → is_some s.euid ≡ false → is_some o ≡ true → if_there is_id o
-      ≡ true → Reads (codes "euid" ++ told id_text o) s (record s { euid = o })
-  euid_read None e h k = absurd (false≢true h)
-  euid_read (Some t) e h k = ((id_again t k).0, rw (sign_again t, e, (id_again t k).1) refl)
+  -- a key that the rule has has a test
+  test_read : (k : Key) (set : Option IdTest → RuleValue) → ((t : IdTest)
+      → (row k).is_in s ≡ false → is_id t ≡ true
+      → Reads ((row k).name ++ id_text t) s (set (Some t))) → IdRead k set
+  test_read k set read None e h v = absurd (false≢true h)
+  test_read k set read (Some t) e h v = read t e v
 
-  gid_read : (o : Option IdTest) → is_some s.gid ≡ false → is_some o ≡ true → if_there is_id o
-      ≡ true → Reads (codes "gid" ++ told id_text o) s (record s { gid = o })
-  gid_read None e h k = absurd (false≢true h)
-  gid_read (Some t) e h k = ((id_again t k).0, rw (sign_again t, e, (id_again t k).1) refl)
+  uid_read : IdRead key.Uid (λ o. record s { uid = o })
+  uid_read = test_read key.Uid (λ o. record s { uid = o })
+      (λ t e v. ((id_again t v).0, rw (sign_again t, e, (id_again t v).1) refl))
 
-  egid_read : (o : Option IdTest) → is_some s.egid ≡ false → is_some o ≡ true → if_there is_id o
-      ≡ true → Reads (codes "egid" ++ told id_text o) s (record s { egid = o })
-  egid_read None e h k = absurd (false≢true h)
-  egid_read (Some t) e h k = ((id_again t k).0, rw (sign_again t, e, (id_again t k).1) refl)
+  euid_read : IdRead key.Euid (λ o. record s { euid = o })
+  euid_read = test_read key.Euid (λ o. record s { euid = o })
+      (λ t e v. ((id_again t v).0, rw (sign_again t, e, (id_again t v).1) refl))
 
-  fowner_read : (o : Option IdTest) → is_some s.fowner ≡ false → is_some o ≡ true → if_there is_id o
-      ≡ true → Reads (codes "fowner" ++ told id_text o) s (record s { fowner = o })
-  fowner_read None e h k = absurd (false≢true h)
-  fowner_read (Some t) e h k = ((id_again t k).0, rw (sign_again t, e, (id_again t k).1) refl)
+  gid_read : IdRead key.Gid (λ o. record s { gid = o })
+  gid_read = test_read key.Gid (λ o. record s { gid = o })
+      (λ t e v. ((id_again t v).0, rw (sign_again t, e, (id_again t v).1) refl))
 
-  fgroup_read : (o : Option IdTest) → is_some s.fgroup ≡ false → is_some o ≡ true → if_there is_id o
-      ≡ true → Reads (codes "fgroup" ++ told id_text o) s (record s { fgroup = o })
-  fgroup_read None e h k = absurd (false≢true h)
-  fgroup_read (Some t) e h k = ((id_again t k).0, rw (sign_again t, e, (id_again t k).1) refl)
+  egid_read : IdRead key.Egid (λ o. record s { egid = o })
+  egid_read = test_read key.Egid (λ o. record s { egid = o })
+      (λ t e v. ((id_again t v).0, rw (sign_again t, e, (id_again t v).1) refl))
+
+  fowner_read : IdRead key.Fowner (λ o. record s { fowner = o })
+  fowner_read = test_read key.Fowner (λ o. record s { fowner = o })
+      (λ t e v. ((id_again t v).0, rw (sign_again t, e, (id_again t v).1) refl))
+
+  fgroup_read : IdRead key.Fgroup (λ o. record s { fgroup = o })
+  fgroup_read = test_read key.Fgroup (λ o. record s { fgroup = o })
+      (λ t e v. ((id_again t v).0, rw (sign_again t, e, (id_again t v).1) refl))
 
   type_read : (n : Need) → not (is_any s.need) ≡ false → not (is_any n) ≡ true → is_appraise s.act
       ≡ true → Reads (codes "appraise_type=imasig") s (record s { need = n })

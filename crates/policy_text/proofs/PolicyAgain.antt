@@ -1,13 +1,15 @@
 -- The printed text of a policy is read back as that policy.
-use Rattle.std.proofs.Common.{◌≡◌, ℕ, ◌+◌, ◌≤◌, ◌<◌, true, List, [], ◌∷◌, ◌++◌, Ok, length, nat_lt, refl, sym, ap, ◌∙◌, append_assoc, arith, length-append}
+use Rattle.std.proofs.Common.{◌≡◌, ℕ, ◌+◌, ◌≤◌, ◌<◌, true, List, [], ◌∷◌, ◌++◌, Ok, length, take, get_or, nat_lt, refl, sym, subst, ap, ◌∙◌, append_assoc, arith, length-append}
 use Rattle.std.specs.List.{AllByRecursion}
 use Rattle.std.proofs.lemmas.Bool.Decides.{nat_tests}
 use Rattle.std.proofs.lemmas.List.{append-nil}
+use Rattle.std.proofs.lemmas.List.Elements.{All-from_recursion, All-more, recursion_from_All}
 use Rattle.text_forms.specs.Lines.{lines, from_lines}
 use Rattle.text_forms.proofs.Tells.{line_split}
 use Rattle.policy_text.specs.Grammar.{fault_at, with_line, policy_of}
 use Rattle.policy_rules.specs.Limits.{most_rules}
 use Rattle.policy_rules.specs.RuleValue.{RuleValue, IsRule}
+use Rattle.policy_rules.proofs.KeyLoops.{texts_more}
 use Rattle.policy_text.specs.Spelling.{rule_text, policy_text}
 use Rattle.policy_text.proofs.RulesAgain.{rule_again, rule_on_one_line, rule_stands}
 
@@ -34,3 +36,20 @@ rules_again (r ∷ rs) done n ok room =
 pub policy_again : (rs : List RuleValue) → AllByRecursion IsRule rs → length rs ≤ most_rules
     → policy_of (policy_text rs) ≡ Ok rs
 policy_again rs ok room = rules_again rs [] 1 ok (omega arith)
+
+module _ (rules : List RuleValue) (i : ℕ) (r : RuleValue) where
+  -- the text of one more rule was appended
+  pub text_more : (out new : List ℕ) → i < length rules → r ≡ get_or rules i r
+      → out ≡ policy_text (take i rules) → new ≡ out ++ (rule_text r ++ 10 ∷ [])
+      → new ≡ policy_text (take (i + 1) rules)
+  text_more out new lt is so_far put =
+      put ∙ (ap (λ (t : List ℕ). t ++ (rule_text r ++ 10 ∷ [])) so_far
+      ∙ (ap (λ (q : RuleValue). policy_text (take i rules) ++ (rule_text q ++ 10 ∷ [])) is
+      ∙ sym (texts_more (λ q. rule_text q ++ 10 ∷ []) rules i r lt)))
+
+  -- one more rule is a rule
+  pub rules_more : i < length rules → r ≡ get_or rules i r → AllByRecursion IsRule (take i rules)
+      → IsRule r → AllByRecursion IsRule (take (i + 1) rules)
+  rules_more lt is so_far ok =
+      recursion_from_All IsRule (take (i + 1) rules) (All-more IsRule rules i r lt
+      (All-from_recursion IsRule (take i rules) so_far) (subst IsRule is ok))

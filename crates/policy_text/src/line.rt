@@ -24,8 +24,12 @@ pub fn rule_of(alloc: Global, line: &[u8]) -> Result<Rule, LineErr>
     ensures { LineGives result (rule_of line.now) }
 {
     let mut tokens = Tokens(line);
-    let first = tokens.next().ok_or(RuleCause::BadAction)?;
-    let act = act_of(first).ok_or(RuleCause::BadAction)?;
+    let Some(first) = tokens.next() else {
+        return Err(LineErr::Refused(RuleCause::BadAction));
+    };
+    let Some(act) = act_of(first) else {
+        return Err(LineErr::Refused(RuleCause::BadAction));
+    };
     let mut rule = plain(act);
     for token in tokens {
         rule = with_token(rule, alloc, token)?;
@@ -87,7 +91,9 @@ fn with_token(rule: Rule, alloc: Global, token: &[u8]) -> Result<Rule, LineErr>
     if is_unsupported_key(token) {
         return Err(LineErr::Refused(RuleCause::Unsupported));
     }
-    let (key, value) = key_of(token).ok_or(RuleCause::BadKey)?;
+    let Some((key, value)) = key_of(token) else {
+        return Err(LineErr::Refused(RuleCause::BadKey));
+    };
     with_key(rule, alloc, key, value)
 }
 
@@ -131,67 +137,61 @@ fn with_value(rule: Rule, alloc: Global, key: Key, value: &[u8]) -> Result<Rule,
     }
 }
 
-fn with_func(rule: Rule, value: &[u8]) -> Result<Rule, LineErr>
+fn with_func(mut rule: Rule, value: &[u8]) -> Result<Rule, LineErr>
     ensures { LineGives result (ok_or ((row key.Func).read value.now rule) cause.BadValue) }
 {
     let Some(func) = func_of(value) else {
         return Err(LineErr::Refused(RuleCause::BadValue));
     };
-    let mut rule = rule;
     rule.func = Some(func);
     Ok(rule)
 }
 
-fn with_mask(rule: Rule, value: &[u8]) -> Result<Rule, LineErr>
+fn with_mask(mut rule: Rule, value: &[u8]) -> Result<Rule, LineErr>
     ensures { LineGives result (ok_or ((row key.Mask).read value.now rule) cause.BadValue) }
 {
     let Some(mask) = mask_of(value) else {
         return Err(LineErr::Refused(RuleCause::BadValue));
     };
-    let mut rule = rule;
     rule.mask = Some(mask);
     Ok(rule)
 }
 
-fn with_magic(rule: Rule, value: &[u8]) -> Result<Rule, LineErr>
+fn with_magic(mut rule: Rule, value: &[u8]) -> Result<Rule, LineErr>
     ensures { LineGives result (ok_or ((row key.FsMagic).read value.now rule) cause.BadValue) }
 {
     let Some(magic) = magic_of(value) else {
         return Err(LineErr::Refused(RuleCause::BadValue));
     };
-    let mut rule = rule;
     rule.fsmagic = Some(magic);
     Ok(rule)
 }
 
-fn with_uuid(rule: Rule, value: &[u8]) -> Result<Rule, LineErr>
+fn with_uuid(mut rule: Rule, value: &[u8]) -> Result<Rule, LineErr>
     ensures { LineGives result (ok_or ((row key.FsUuid).read value.now rule) cause.BadValue) }
 {
     let Some(uuid) = uuid_of(value) else {
         return Err(LineErr::Refused(RuleCause::BadValue));
     };
-    let mut rule = rule;
     rule.fsuuid = Some(uuid);
     Ok(rule)
 }
 
-fn with_name(rule: Rule, alloc: Global, name: &[u8]) -> Result<Rule, LineErr>
+fn with_name(mut rule: Rule, alloc: Global, name: &[u8]) -> Result<Rule, LineErr>
     ensures { LineGives result (ok_or ((row key.FsName).read name.now rule) cause.BadValue) }
 {
     if !is_word(name, 255) {
         return Err(LineErr::Refused(RuleCause::BadValue));
     }
-    let mut rule = rule;
     rule.fsname = Some(Bytes::from_slice(alloc, name)?);
     Ok(rule)
 }
 
 // Sets the test of an id key; `key` is never one of the others.
-fn with_id(rule: Rule, key: Key, test: IdTest) -> Rule
+fn with_id(mut rule: Rule, key: Key, test: IdTest) -> Rule
     requires { IsTrue (is_id test) }
     ensures { result ≡ with_id key test rule }
 {
-    let mut rule = rule;
     match key {
         Key::Uid => rule.uid = Some(test),
         Key::Euid => rule.euid = Some(test),
@@ -204,7 +204,7 @@ fn with_id(rule: Rule, key: Key, test: IdTest) -> Rule
     rule
 }
 
-fn with_type(rule: Rule, value: &[u8]) -> Result<Rule, LineErr>
+fn with_type(mut rule: Rule, value: &[u8]) -> Result<Rule, LineErr>
     requires { is_appraise rule.act ≡ true }
     ensures { LineGives result
         (ok_or ((row key.AppraiseType).read value.now rule) cause.BadValue) }
@@ -212,12 +212,11 @@ fn with_type(rule: Rule, value: &[u8]) -> Result<Rule, LineErr>
     if value != b"imasig".as_slice() {
         return Err(LineErr::Refused(RuleCause::BadValue));
     }
-    let mut rule = rule;
     rule.need = Need::Signature;
     Ok(rule)
 }
 
-fn with_flag(rule: Rule, value: &[u8]) -> Result<Rule, LineErr>
+fn with_flag(mut rule: Rule, value: &[u8]) -> Result<Rule, LineErr>
     requires { is_appraise rule.act ≡ true }
     ensures { LineGives result
         (ok_or ((row key.AppraiseFlag).read value.now rule) cause.BadValue) }
@@ -225,23 +224,21 @@ fn with_flag(rule: Rule, value: &[u8]) -> Result<Rule, LineErr>
     if value != b"check_blacklist".as_slice() {
         return Err(LineErr::Refused(RuleCause::BadValue));
     }
-    let mut rule = rule;
     rule.blacklist = true;
     Ok(rule)
 }
 
-fn with_directio(rule: Rule, value: &[u8]) -> Result<Rule, LineErr>
+fn with_directio(mut rule: Rule, value: &[u8]) -> Result<Rule, LineErr>
     ensures { LineGives result (ok_or ((row key.Directio).read value.now rule) cause.BadValue) }
 {
     if !value.is_empty() {
         return Err(LineErr::Refused(RuleCause::BadValue));
     }
-    let mut rule = rule;
     rule.directio = true;
     Ok(rule)
 }
 
-fn with_algos(rule: Rule, value: &[u8]) -> Result<Rule, LineErr>
+fn with_algos(mut rule: Rule, value: &[u8]) -> Result<Rule, LineErr>
     requires { is_appraise rule.act ≡ true }
     ensures { LineGives result
         (ok_or ((row key.AppraiseAlgos).read value.now rule) cause.BadValue) }
@@ -249,31 +246,28 @@ fn with_algos(rule: Rule, value: &[u8]) -> Result<Rule, LineErr>
     let Some(algos) = algos_of(value) else {
         return Err(LineErr::Refused(RuleCause::BadValue));
     };
-    let mut rule = rule;
     rule.algos = Some(algos);
     Ok(rule)
 }
 
-fn with_pcr(rule: Rule, value: &[u8]) -> Result<Rule, LineErr>
+fn with_pcr(mut rule: Rule, value: &[u8]) -> Result<Rule, LineErr>
     requires { is_measure rule.act ≡ true }
     ensures { LineGives result (ok_or ((row key.Pcr).read value.now rule) cause.BadValue) }
 {
     let Some(pcr) = number_of(value, 10, 23) else {
         return Err(LineErr::Refused(RuleCause::BadValue));
     };
-    let mut rule = rule;
     rule.pcr = Some(pcr as u8);
     Ok(rule)
 }
 
-fn with_template(rule: Rule, value: &[u8]) -> Result<Rule, LineErr>
+fn with_template(mut rule: Rule, value: &[u8]) -> Result<Rule, LineErr>
     requires { is_measure rule.act ≡ true }
     ensures { LineGives result (ok_or ((row key.Template).read value.now rule) cause.BadValue) }
 {
     let Some(template) = template_of(value) else {
         return Err(LineErr::Refused(RuleCause::BadValue));
     };
-    let mut rule = rule;
     rule.template = Some(template);
     Ok(rule)
 }

@@ -43,14 +43,13 @@ pub fn parse_rule(alloc: Global, line: &[u8]) -> Result<Rule, PolicyErr>
 }
 
 // The policy with the rule of one more line.
-fn with_line(alloc: Global, policy: Policy, line: &[u8]) -> Result<Policy, LineErr>
+fn with_line(alloc: Global, mut policy: Policy, line: &[u8]) -> Result<Policy, LineErr>
     ensures { LineGives result (with_line policy line.now) }
 {
     if is_skipped(line) {
         return Ok(policy);
     }
     let rule = rule_of(alloc, line)?;
-    let mut policy = policy;
     if policy.rules().len() >= RULES {
         return Err(LineErr::Refused(RuleCause::TooMany));
     }

@@ -170,12 +170,13 @@ fn push_name(out: &mut Vec<u8>, name: &Option<Bytes>) -> io::Result<()>
 fn push_id(out: &mut Vec<u8>, test: Option<IdTest>) -> io::Result<()>
     ensures { OnOk result (out.new.items ≡ out.old.items ++ told id_text test) }
 {
-    match test {
-        Some(IdTest::Is(number)) => write!(out, "={number}"),
-        Some(IdTest::Above(number)) => write!(out, ">{number}"),
-        Some(IdTest::Below(number)) => write!(out, "<{number}"),
-        None => Ok(()),
-    }
+    let (sign, number) = match test {
+        Some(IdTest::Is(number)) => ("=", number),
+        Some(IdTest::Above(number)) => (">", number),
+        Some(IdTest::Below(number)) => ("<", number),
+        None => return Ok(()),
+    };
+    write!(out, "{sign}{number}")
 }
 
 fn push_pcr(out: &mut Vec<u8>, pcr: Option<u8>) -> io::Result<()>
