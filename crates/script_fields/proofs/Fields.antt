@@ -60,31 +60,3 @@ module _ {X : Type 0} (made : List (List ℕ) → X) (bad : X) where
   but_seven r0 r1 r2 r3 r4 r5 r6 r8 (a ∷ b ∷ c ∷ d ∷ e ∷ f ∷ g ∷ []) other = absurd (other refl)
   but_seven r0 r1 r2 r3 r4 r5 r6 r8 (a ∷ b ∷ c ∷ d ∷ e ∷ f ∷ g ∷ h ∷ more) other =
       r8 a.now b.now c.now d.now e.now f.now g.now h.now (texts more)
-
-  -- a reader that refuses each number of words but eight refuses all words that aren't eight
-  pub but_eight : made [] ≡ bad
-      → ((a : List ℕ) → made (a ∷ []) ≡ bad)
-      → ((a b : List ℕ) → made (a ∷ b ∷ []) ≡ bad)
-      → ((a b c : List ℕ) → made (a ∷ b ∷ c ∷ []) ≡ bad)
-      → ((a b c d : List ℕ) → made (a ∷ b ∷ c ∷ d ∷ []) ≡ bad)
-      → ((a b c d e : List ℕ) → made (a ∷ b ∷ c ∷ d ∷ e ∷ []) ≡ bad)
-      → ((a b c d e f : List ℕ) → made (a ∷ b ∷ c ∷ d ∷ e ∷ f ∷ []) ≡ bad)
-      → ((a b c d e f g : List ℕ) → made (a ∷ b ∷ c ∷ d ∷ e ∷ f ∷ g ∷ []) ≡ bad)
-      → ((a b c d e f g h i : List ℕ) (more : List (List ℕ))
-      → made (a ∷ b ∷ c ∷ d ∷ e ∷ f ∷ g ∷ h ∷ i ∷ more) ≡ bad)
-      → (ws : Words) → length ws ≢ 8 → made (texts ws) ≡ bad
-  but_eight r0 r1 r2 r3 r4 r5 r6 r7 r9 [] other = r0
-  but_eight r0 r1 r2 r3 r4 r5 r6 r7 r9 (a ∷ []) other = r1 a.now
-  but_eight r0 r1 r2 r3 r4 r5 r6 r7 r9 (a ∷ b ∷ []) other = r2 a.now b.now
-  but_eight r0 r1 r2 r3 r4 r5 r6 r7 r9 (a ∷ b ∷ c ∷ []) other = r3 a.now b.now c.now
-  but_eight r0 r1 r2 r3 r4 r5 r6 r7 r9 (a ∷ b ∷ c ∷ d ∷ []) other = r4 a.now b.now c.now d.now
-  but_eight r0 r1 r2 r3 r4 r5 r6 r7 r9 (a ∷ b ∷ c ∷ d ∷ e ∷ []) other =
-      r5 a.now b.now c.now d.now e.now
-  but_eight r0 r1 r2 r3 r4 r5 r6 r7 r9 (a ∷ b ∷ c ∷ d ∷ e ∷ f ∷ []) other =
-      r6 a.now b.now c.now d.now e.now f.now
-  but_eight r0 r1 r2 r3 r4 r5 r6 r7 r9 (a ∷ b ∷ c ∷ d ∷ e ∷ f ∷ g ∷ []) other =
-      r7 a.now b.now c.now d.now e.now f.now g.now
-  but_eight r0 r1 r2 r3 r4 r5 r6 r7 r9 (a ∷ b ∷ c ∷ d ∷ e ∷ f ∷ g ∷ h ∷ []) other =
-      absurd (other refl)
-  but_eight r0 r1 r2 r3 r4 r5 r6 r7 r9 (a ∷ b ∷ c ∷ d ∷ e ∷ f ∷ g ∷ h ∷ i ∷ more) other =
-      r9 a.now b.now c.now d.now e.now f.now g.now h.now i.now (texts more)

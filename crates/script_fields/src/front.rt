@@ -41,11 +41,11 @@ pub fn file_in<'a>(fields: &[&'a [u8]]) -> Option<(Front<'a>, &'a [u8])>
     ensures { option_map (λ f. (front_view f.0, f.1.now)) result
         ≡ file_in (map (λ w. w.now) fields.now) }
 {
-    let [path, fs, ino, generation, uid, gid, mode, content] = fields else {
+    let Some((content, front)) = fields.split_last() else {
         return None;
     };
-    let front = front_of(path, fs, ino, generation, uid, gid, mode)?;
-    Some((front, content))
+    let front = front_in(front)?;
+    Some((front, *content))
 }
 
 fn front_of<'a>(

@@ -4,7 +4,8 @@ use Rattle.script_fields.specs.FrontView.{front_view}
 use Rattle.script_fields.proofs.Fields.{but_seven}
 use Rattle.script_fields.proofs.Fronts.{seven_said}
 use Rattle.script_fields.proofs.front.front_in.Goals as goal
-use Rattle.script_fields.proofs.front.front_in.Goals.{in_default-via-then-fields-lt7, in_default-via-else-fields-lt7+else-fields-lt8}
+use Rattle.script_fields.proofs.front.front_in.Goals.{in_default-via-then-fields-lt7}
+use Rattle.script_fields.proofs.front.front_in.Goals.{in_default-via-else-fields-lt7+else-fields-lt8}
 
 pub returns-in_default : goal.returns-in_default
 returns-in_default c =
