@@ -12,3 +12,4 @@ pub mod TasksKept
 pub use Rattle.call_lines.proofs as about_calls
 pub use Rattle.call_lines.proofs.Holding
 pub use Rattle.call_lines.proofs.ValueForms
+pub mod Memory
