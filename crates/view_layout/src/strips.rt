@@ -1,6 +1,6 @@
 // The strips of a drawing: the counts, and what is known of the content.
 
-ghost use Rattle.std.specs.Prelude.{◌≡◌, ◌+◌, ◌++◌, ◌<◌, ◌^◌, OnOk};
+ghost use Rattle.std.specs.Prelude.{◌≡◌, ◌==◌, ◌&&◌, ◌+◌, ◌++◌, ◌<◌, ◌^◌, OnOk};
 ghost use Rattle.std.specs.List.{list_any};
 ghost use Rattle.view_layout.specs.Drawing as spec;
 ghost use Rattle.view_journal.specs.Frame.{middle};
@@ -66,7 +66,7 @@ fn push_segments(
     for column in rest {
         let x = middle(*column);
         let next = shown_in(strip, column.state);
-        if next != shown || x != to {
+        if !goes_on(next, x, shown, to) {
             items.push(segment(strip, from, to, shown))?;
             from = x;
             shown = next;
@@ -75,6 +75,13 @@ fn push_segments(
     }
     items.push(segment(strip, from, to.saturating_sub(15), shown))?;
     Ok(())
+}
+
+// The segment goes on in a column that begins at x.
+fn goes_on(next: u64, x: u64, shown: u64, to: u64) -> bool
+    ensures { result ≡ (next == shown && x == to) }
+{
+    next == shown && x == to
 }
 
 fn segment(strip: Strip, from: u64, to: u64, shown: u64) -> Item
