@@ -1,8 +1,8 @@
 -- A walk over a journal from its end, event by event.
-use Rattle.std.proofs.Common.{◌≡◌, ◌≢◌, ℕ, zero, suc, ◌+◌, ◌-◌, ◌<◌, ◌==◌, Bool, true, false, cond, ◌&&◌, List, [], ◌∷◌, ◌++◌, length, drop, get_or, reverse, Option, Some, None, refl, sym, ap, ◌∙◌, arith, inl, inr}
+use Rattle.std.proofs.Common.{◌≡◌, ◌≢◌, ℕ, zero, suc, ◌+◌, ◌-◌, ◌<◌, ◌==◌, Bool, true, false, cond, ◌&&◌, List, [], ◌∷◌, ◌++◌, length, append-nil, drop, get_or, reverse, take, Option, Some, None, refl, sym, ap, ◌∙◌, arith, inl, inr}
 use Rattle.std.proofs.lemmas.Bool.{cases_Bool, eqb-false, eqb-true, ne_eqb}
 use Rattle.std.proofs.lemmas.Grind.{get_or-set_at}
-use Rattle.std.proofs.lemmas.List.{at_drop_more, get_or-set_other, length-drop, length-reverse, length-set, reverse-append, drop_all}
+use Rattle.std.proofs.lemmas.List.{at_drop_more, get_or-set_other, length-drop, length-reverse, length-set, reverse-append, drop_all, take_all}
 use Rattle.std.specs.Prelude.{nat_lt, unwrap_or}
 use Rattle.std.specs.List.{list_any}
 use Rattle.report_read.specs.words.declared.event.Event.{Event}
@@ -130,3 +130,11 @@ walked_start ws journal drops found size h is =
       bars = is
           ∙ ap (λ (x : List Event). reverse (kept ws (bars_from (length journal) x))) (sym none);
     }
+
+-- the slots after a step are those of the step
+pub slots_kept : (old new : List ℕ) (n : ℕ) → length new ≡ length old → n ≡ length old
+    → take n (new ++ drop (length new) old) ≡ new
+slots_kept old new n same is =
+    ap (λ (x : List ℕ). take n (new ++ x)) (drop_all (length new) old (omega (arith, same)))
+    ∙ (ap (λ (x : List ℕ). take n x) (append-nil new)
+    ∙ take_all n new (omega (arith, same, is)))

@@ -10,11 +10,13 @@ pub mod EntriesLemmas
 pub mod HoldersLemmas
 pub mod BarsLemmas
 pub mod RowsLemmas
+pub mod RowsSteps
 pub mod ColumnsLemmas
 pub mod ColumnsStand
 pub mod WindowsLemmas
 mod Examples
 pub mod BarsSteps
+pub mod OwnBars
 pub mod Firsts
 pub mod WalkPlaces
 pub mod WindowsSteps

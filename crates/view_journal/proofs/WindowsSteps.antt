@@ -1,11 +1,11 @@
 -- The windows so far, and those that one more place gives.
-use Rattle.std.proofs.Common.{◌≡◌, ℕ, ◌+◌, ◌<◌, ◌≤◌, true, false, List, [], ◌∷◌, ◌++◌, length, drop, get_or, append_assoc, ap, refl, sym, ◌∙◌}
+use Rattle.std.proofs.Common.{◌≡◌, ℕ, ◌+◌, ◌-◌, ◌<◌, ◌≤◌, true, false, List, [], ◌∷◌, ◌++◌, length, drop, get_or, append_assoc, append-nil, ap, refl, sym, ◌∙◌}
 use Rattle.std.proofs.lemmas.List.{at_drop_all, at_drop_more}
 use Rattle.report_read.specs.words.declared.event.Event.{Event}
 use Rattle.view_journal.specs.declared.window.Growth.{Growth}
 use Rattle.view_journal.specs.declared.window.Window.{Window}
 use Rattle.view_journal.specs.Notes.{is_marked}
-use Rattle.view_journal.specs.Windows.{around, grow, grown, marked_from}
+use Rattle.view_journal.specs.Windows.{around, grow, grown, marked_from, of_interest}
 
 -- the windows from the last one on, if the next place begins another
 parts : (most last p : ℕ) (g next : Growth) (ps : List ℕ) → next ≡ grow most g (around last p)
@@ -83,3 +83,17 @@ unmarked_next journal place d ps all lt unmarked h =
     ap (λ (x : List ℕ). ps ++ x)
     (sym (at_drop_more (marked_from place) journal place d lt ∙ on))
     ∙ h
+
+-- after the last event, with its place
+pub marked_all : (journal : List Event) (place last : ℕ) (ps new : List ℕ)
+    → length journal ≤ place → last ≡ length journal - 1 → new ≡ ps ++ last ∷ []
+    → ps ++ marked_from place (drop place journal) ≡ marked_from 0 journal
+    → new ≡ of_interest journal
+marked_all journal place last ps new past is pushed h =
+    let places : ps ≡ marked_from 0 journal
+    = sym (append-nil ps)
+    ∙ (ap (λ (x : List ℕ). ps ++ x) (sym (at_drop_all (marked_from place) journal place past))
+    ∙ h) in
+    pushed
+    ∙ (ap (λ (x : List ℕ). x ++ last ∷ []) places
+    ∙ ap (λ (n : ℕ). marked_from 0 journal ++ n ∷ []) is)

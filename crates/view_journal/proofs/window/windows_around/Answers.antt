@@ -1,6 +1,16 @@
+use Rattle.std.proofs.Common.{refl}
 use Rattle.view_journal.proofs.WindowsSteps.{joined_next, parted_next, windows_all}
 use Rattle.view_journal.proofs.window.windows_around.Goals as goal
 use Rattle.view_journal.proofs.window.windows_around.Goals.{then-next+in_ok-push, else-next}
+
+pub grow-next-requires : goal.grow-next-requires
+grow-next-requires c = c.loop-place.invariant.small
+
+pub loop-place-init : goal.loop-place-init
+loop-place-init c = record {
+  small = c.first_window-growth.ensures.small;
+  same = rw (c.new-windows.ensures.items, c.first_window-growth.ensures.is) refl;
+}
 
 pub loop-place-preserved : goal.loop-place-preserved
 loop-place-preserved c =
