@@ -98,6 +98,5 @@ pub fn numbers(
     ensures { IfOk result (λ v. v.items ≡ spec.numbers text.now first.now second.now) }
 {
     let n = shown(first, second);
-    let found = numbers_of(alloc, text, &first[..n], &second[..n])?;
-    Ok(found)
+    numbers_of(alloc, text, &first[..n], &second[..n])
 }

@@ -25,8 +25,7 @@ pub fn push_page(
         (spec.report_parts text.now report.now)) }
 {
     let order = order(alloc, &report.inodes)?;
-    push_ordered(alloc, out, text, report, &order)?;
-    Ok(())
+    push_ordered(alloc, out, text, report, &order)
 }
 
 // The page, with the inodes in this order.
@@ -42,8 +41,7 @@ fn push_ordered(
 {
     let first = first_of(order);
     let shown = planned(alloc, &report.inodes, first)?;
-    push_planned(alloc, out, text, report, &shown, first, beyond(order))?;
-    Ok(())
+    push_planned(alloc, out, text, report, &shown, first, beyond(order))
 }
 
 // The page with these inodes and windows, and without so many other inodes.
@@ -70,8 +68,7 @@ fn push_planned(
         Part::Section(Section::MoreInodesEnd),
     )?;
     push_tables(alloc, out, text, Side::Alone, shown, report)?;
-    push_parts(out, text, &[Part::Frame(Frame::End)])?;
-    Ok(())
+    push_parts(out, text, &[Part::Frame(Frame::End)])
 }
 
 /// Appends the page of one inode, or of a range of its journal. `number` is its index in the
@@ -88,8 +85,7 @@ pub fn push_inode_page(
         (spec.inode_page_parts text.now number inode.now range)) }
 {
     let windows = windows_or(alloc, range, &inode.events)?;
-    push_inode_in(alloc, out, text, number, inode, &windows)?;
-    Ok(())
+    push_inode_in(alloc, out, text, number, inode, &windows)
 }
 
 fn push_inode_in(
@@ -106,8 +102,7 @@ fn push_inode_in(
     let view = view_of(Side::Alone, number);
     push_head(out, text, Frame::OneRun)?;
     push_section(alloc, out, text, Detail::Overview, view, windows, inode)?;
-    push_parts(out, text, &[Part::Frame(Frame::End)])?;
-    Ok(())
+    push_parts(out, text, &[Part::Frame(Frame::End)])
 }
 
 fn windows_or(
@@ -172,8 +167,7 @@ fn push_tables_by(
     push_list(alloc, out, text, side, shown, inodes, entries)?;
     push_registers(out, text, registers)?;
     push_rules(out, text, rules)?;
-    push_calls(alloc, out, text, side, shown, inodes, tasks)?;
-    Ok(())
+    push_calls(alloc, out, text, side, shown, inodes, tasks)
 }
 
 // For each of so many entries, the event that added it.
@@ -199,6 +193,5 @@ pub fn push_list(
         (spec.list_parts text.now side shown.now inodes.now lines.now)) }
 {
     let added = added(alloc, lines.len(), inodes)?;
-    push_entries(out, text, side, shown, &added, lines)?;
-    Ok(())
+    push_entries(out, text, side, shown, &added, lines)
 }

@@ -1,8 +1,11 @@
 // The page of two reports of one script.
 
-ghost use Rattle.std.specs.Prelude.{◌≡◌, ◌<◌, length, OnOk};
+ghost use Rattle.std.specs.Prelude.{◌≡◌, ◌<◌, ◌++◌, [], ◌∷◌, length, OnOk};
+ghost use Rattle.view_page.specs.declared.html.Section.TheVariants as section;
+ghost use Rattle.view_page.specs.declared.part.Part.TheVariants as part;
 ghost use Rattle.view_page.specs.journals.Windows.{windows};
 ghost use Rattle.view_pages.specs.Pair as spec;
+ghost use Rattle.view_pages.specs.Section.{heading, marked};
 ghost use Rattle.view_page.specs.Parts.{Pushed};
 ghost use Rattle.view_plan.specs.Plan.{most_drawn};
 
@@ -44,8 +47,7 @@ fn push_compared(
 {
     let differs = differing(alloc, text, mine, other, windows)?;
     push_drawing(alloc, out, text, view, mine, windows, &differs)?;
-    push_sentences(alloc, out, text, view, mine, windows)?;
-    Ok(())
+    push_sentences(alloc, out, text, view, mine, windows)
 }
 
 // The same of the windows of a journal.
@@ -62,8 +64,7 @@ fn push_compared_in(
         (spec.compared text.now view mine.now other.now (windows most_drawn mine.now))) }
 {
     let windows = windows(alloc, MOST_DRAWN, mine)?;
-    push_compared(alloc, out, text, view, mine, other, &windows)?;
-    Ok(())
+    push_compared(alloc, out, text, view, mine, other, &windows)
 }
 
 fn push_compared_by(
@@ -84,6 +85,27 @@ fn push_compared_by(
     }
 }
 
+// The heading of a side, up to its drawing.
+fn push_side_heading(
+    out: &mut Vec<u8>,
+    text: &[u8],
+    view: View,
+    head: InodeHead,
+    journal: &[Event],
+) -> Result<(), OutOfMemory>
+    ensures { OnOk result (Pushed text.now out.old.items out.new.items
+        (heading text.now view.inode (length journal.now) head ++ marked journal.now
+        ++ spec.which view.side ∷ part.Section section.Close ∷ [])) }
+{
+    push_heading(out, text, view.inode, journal.len() as u64, head)?;
+    push_marked(out, text, journal)?;
+    push_parts(
+        out,
+        text,
+        &[which(view.side), Part::Section(Section::Close)],
+    )
+}
+
 fn push_side_by(
     alloc: Global,
     out: &mut Vec<u8>,
@@ -97,29 +119,22 @@ fn push_side_by(
     ensures { OnOk result (Pushed text.now out.old.items out.new.items
         (spec.side_by text.now view head attrs.now mine.now other.now)) }
 {
-    push_heading(out, text, view.inode, mine.len() as u64, head)?;
-    push_marked(out, text, mine)?;
-    push_parts(
-        out,
-        text,
-        &[which(view.side), Part::Section(Section::Close)],
-    )?;
+    push_side_heading(out, text, view, head, mine)?;
     push_compared_by(alloc, out, text, view, mine, other)?;
-    push_at_end(out, text, head, attrs)?;
-    Ok(())
+    push_at_end(out, text, head, attrs)
 }
 
-// The section of an inode of one report, next to this journal of the other one.
+// The section of an inode of one report, next to the journal that it has in the other one.
 fn push_side(
     alloc: Global,
     out: &mut Vec<u8>,
     text: &[u8],
     view: View,
     inode: &Inode,
-    other: &[Event],
+    other: &Inode,
 ) -> Result<(), OutOfMemory>
     ensures { OnOk result (Pushed text.now out.old.items out.new.items
-        (spec.side_of text.now view inode.now other.now)) }
+        (spec.side_of text.now view inode.now other.now.events)) }
 {
     push_side_by(
         alloc,
@@ -129,7 +144,7 @@ fn push_side(
         inode.head,
         &inode.attrs,
         &inode.events,
-        other,
+        &other.events,
     )
 }
 
@@ -156,10 +171,9 @@ fn push_both(
         (spec.both text.now number place first.now second.now)) }
 {
     let above = view_at(Side::First, number, place);
-    push_side(alloc, out, text, above, first, &second.events)?;
+    push_side(alloc, out, text, above, first, second)?;
     let below = view_at(Side::Second, number, place);
-    push_side(alloc, out, text, below, second, &first.events)?;
-    Ok(())
+    push_side(alloc, out, text, below, second, first)
 }
 
 fn push_same_by(
@@ -174,8 +188,7 @@ fn push_same_by(
 {
     let same = [Part::Section(Section::Same), Part::Section(Section::Close)];
     push_heading(out, text, number, journal.len() as u64, head)?;
-    push_parts(out, text, &same)?;
-    Ok(())
+    push_parts(out, text, &same)
 }
 
 // One line, if the journals are the same.
@@ -198,8 +211,7 @@ fn push_undrawn_by(
 {
     push_heading(out, text, number, journal.len() as u64, head)?;
     push_parts(out, text, &[Part::Section(Section::Close)])?;
-    push_not_drawn(out, text, number)?;
-    Ok(())
+    push_not_drawn(out, text, number)
 }
 
 // Two lines, if no more inodes are drawn.
@@ -282,8 +294,7 @@ fn push_pairs(
         Part::Section(Section::MoreInodes),
         more as u64,
         Part::Section(Section::MoreInodesEnd),
-    )?;
-    Ok(())
+    )
 }
 
 fn push_both_tiles(
@@ -298,8 +309,7 @@ fn push_both_tiles(
     push_parts(out, text, &[Part::Frame(Frame::First)])?;
     push_tiles(out, text, first)?;
     push_parts(out, text, &[Part::Frame(Frame::Second)])?;
-    push_tiles(out, text, second)?;
-    Ok(())
+    push_tiles(out, text, second)
 }
 
 // What stands below the inodes of one report, with links to the events of these inodes.
@@ -315,8 +325,7 @@ fn push_side_tables(
         (spec.side_tables text.now side numbers.now report.now)) }
 {
     let shown = planned(alloc, &report.inodes, numbers)?;
-    push_tables(alloc, out, text, side, &shown, report)?;
-    Ok(())
+    push_tables(alloc, out, text, side, &shown, report)
 }
 
 // The lists and the calls, side by side.
@@ -335,8 +344,24 @@ fn push_both_tables(
     push_side_tables(alloc, out, text, Side::First, numbers, first)?;
     push_parts(out, text, &[Part::Frame(Frame::Beside)])?;
     push_side_tables(alloc, out, text, Side::Second, numbers, second)?;
-    push_parts(out, text, &[Part::Frame(Frame::BothEnd)])?;
-    Ok(())
+    push_parts(out, text, &[Part::Frame(Frame::BothEnd)])
+}
+
+// The same, with links to the events of the inodes that are drawn.
+fn push_linked_tables(
+    alloc: Global,
+    out: &mut Vec<u8>,
+    text: &[u8],
+    first: &Report,
+    second: &Report,
+    inodes: &[Inode],
+    others: &[Inode],
+) -> Result<(), OutOfMemory>
+    ensures { OnOk result (Pushed text.now out.old.items out.new.items (spec.both_tables
+        text.now (spec.numbers text.now inodes.now others.now) first.now second.now)) }
+{
+    let numbers = numbers(alloc, text, inodes, others)?;
+    push_both_tables(alloc, out, text, &numbers, first, second)
 }
 
 fn push_pair_by_inodes(
@@ -351,13 +376,11 @@ fn push_pair_by_inodes(
     ensures { OnOk result (Pushed text.now out.old.items out.new.items
         (spec.pair_of text.now first.now second.now inodes.now others.now)) }
 {
-    let numbers = numbers(alloc, text, inodes, others)?;
     push_head(out, text, Frame::TwoRuns)?;
     push_both_tiles(out, text, first, second)?;
     push_pairs(alloc, out, text, inodes, others)?;
-    push_both_tables(alloc, out, text, &numbers, first, second)?;
-    push_parts(out, text, &[Part::Frame(Frame::End)])?;
-    Ok(())
+    push_linked_tables(alloc, out, text, first, second, inodes, others)?;
+    push_parts(out, text, &[Part::Frame(Frame::End)])
 }
 
 /// Appends the page of two reports, which were read from `text`: the inodes whose journals differ,

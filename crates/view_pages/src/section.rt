@@ -78,8 +78,7 @@ pub fn push_heading(
     ];
     push_parts(out, text, &before)?;
     push_titled(out, text, 80, path(text, head))?;
-    push_length(out, text, events)?;
-    Ok(())
+    push_length(out, text, events)
 }
 
 fn push_attr(out: &mut Vec<u8>, text: &[u8], line: Span) -> Result<(), OutOfMemory>
@@ -146,8 +145,7 @@ pub fn push_at_end(
         more,
         Part::Section(Section::MoreAttrs),
     )?;
-    push_parts(out, text, &[Part::Section(Section::ParaEnd)])?;
-    Ok(())
+    push_parts(out, text, &[Part::Section(Section::ParaEnd)])
 }
 
 /// Appends the drawing of these windows of a journal. `differs` are the places whose columns are
@@ -167,8 +165,7 @@ pub fn push_drawing(
 {
     push_parts(out, text, &[Part::Section(Section::Wide)])?;
     push_inode(alloc, out, text, view, journal, windows, differs)?;
-    push_parts(out, text, &[Part::Section(Section::WideEnd)])?;
-    Ok(())
+    push_parts(out, text, &[Part::Section(Section::WideEnd)])
 }
 
 /// Appends that the inode of this number isn't drawn.
@@ -255,8 +252,7 @@ fn push_drawn_by(
 {
     push_overview_if(alloc, out, text, detail, journal, windows)?;
     push_windows(alloc, out, text, view, windows, journal)?;
-    push_sentences(alloc, out, text, view, journal, windows)?;
-    Ok(())
+    push_sentences(alloc, out, text, view, journal, windows)
 }
 
 // The overview, the drawing and the sentences of a journal with more than its birth.
@@ -289,8 +285,7 @@ pub fn push_marked(out: &mut Vec<u8>, text: &[u8], journal: &[Event]) -> Result<
     let violations = count(Grade::Violated, journal);
     let marked = count(Grade::Marked, journal);
     let denials = marked.saturating_sub(violations);
-    push_marked_by(out, text, violations, denials)?;
-    Ok(())
+    push_marked_by(out, text, violations, denials)
 }
 
 fn push_violations(out: &mut Vec<u8>, text: &[u8], n: u64) -> Result<(), OutOfMemory>
@@ -321,8 +316,7 @@ fn push_marked_by(
         Part::Section(Section::Bad),
         denials,
         Part::Section(Section::Denials),
-    )?;
-    Ok(())
+    )
 }
 
 /// The view of an inode whose identifiers begin so.
@@ -354,8 +348,7 @@ fn push_section_by(
     push_marked(out, text, journal)?;
     push_parts(out, text, &[Part::Section(Section::Close)])?;
     push_drawn(alloc, out, text, detail, view, windows, journal)?;
-    push_at_end(out, text, head, attrs)?;
-    Ok(())
+    push_at_end(out, text, head, attrs)
 }
 
 /// Appends the section of an inode: its heading, the drawing of these windows of its journal, and

@@ -48,8 +48,7 @@ fn push_section_at(
 {
     let view = view_of(side, number as u64);
     let windows = windows_in(alloc, shown, number as u64)?;
-    push_section_if(alloc, out, text, detail, view, &windows, inodes, number)?;
-    Ok(())
+    push_section_if(alloc, out, text, detail, view, &windows, inodes, number)
 }
 
 // The sections of the inodes of these numbers.
@@ -118,6 +117,5 @@ pub fn push_sections(
         shown,
         inodes,
         others,
-    )?;
-    Ok(())
+    )
 }

@@ -1,5 +1,6 @@
 use Rattle.std.proofs.Common.{ℕ, take, ap, sym, ◌∙◌}
 use Rattle.std.proofs.lemmas.List.{length-take-le}
+use Rattle.std.proofs.lemmas.Result.{IfOk-weaker}
 use Rattle.view_pages.specs.Pair.{most_pairs, numbers_from}
 use Rattle.view_pages.proofs.chosen.numbers.Goals as goal
 
@@ -10,6 +11,8 @@ numbers_of-requires c =
 
 pub returns : goal.returns
 returns c =
-    c.in_ok-found.ensures
+    IfOk-weaker c.numbers_of.result _ _
+    (λ v found. found
     ∙ ap (λ (n : ℕ). numbers_from c.args.text.now 0 most_pairs (take n c.args.first.now)
-    (take n c.args.second.now)) c.shown-n.ensures.value
+    (take n c.args.second.now)) c.shown-n.ensures.value)
+    c.numbers_of.ensures

@@ -1,4 +1,5 @@
 use Rattle.std.proofs.Common.{ℕ, List, ap, take, ◌∙◌}
+use Rattle.std.proofs.lemmas.Result.{on_ok_weaker}
 use Rattle.view_page.specs.journals.reading.Report.{InodeValue, ReportValue}
 use Rattle.view_pages.specs.Page.{planned_parts}
 use Rattle.view_plan.specs.Plan.{most_sections, planned}
@@ -8,7 +9,8 @@ use Rattle.view_pages.proofs.page.push_ordered.Goals as goal
 
 pub returns : goal.returns
 returns c =
-    as_parts c.in_ok-push_planned.ensures
+    on_ok_weaker c.push_planned.result
+    (λ pushed. as_parts pushed
     (ap (λ (ss : List Shown). planned_parts c.args.text.now ss c.first_of-first.result.now
     c.beyond.result c.args.report.now)
     (c.deref-2.ensures.value ∙ (c.in_ok-shown.ensures
@@ -19,4 +21,5 @@ returns c =
     c.first_of-first.ensures
     ∙ ap (λ (n : ℕ). planned_parts c.args.text.now
     (planned c.args.report.now.inodes (take most_sections c.args.order.now))
-    (take most_sections c.args.order.now) n c.args.report.now) c.beyond.ensures))
+    (take most_sections c.args.order.now) n c.args.report.now) c.beyond.ensures)))
+    c.push_planned.ensures

@@ -1,7 +1,10 @@
+use Rattle.std.proofs.lemmas.Result.{on_ok_weaker}
 use Rattle.view_page.proofs.Joined.{◌▹◌}
 use Rattle.view_pages.proofs.pair.push_both_tiles.Goals as goal
 
 pub returns : goal.returns
 returns c =
-    c.in_ok-push_parts.ensures ▹ c.in_ok-push_tiles.ensures ▹ c.in_ok-push_parts-2.ensures
-    ▹ c.in_ok-push_tiles-2.ensures
+    on_ok_weaker c.push_tiles-2.result
+    (λ pushed. c.in_ok-push_parts.ensures ▹ c.in_ok-push_tiles.ensures ▹ c.in_ok-push_parts-2.ensures
+    ▹ pushed)
+    c.push_tiles-2.ensures

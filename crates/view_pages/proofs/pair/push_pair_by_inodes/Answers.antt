@@ -1,12 +1,10 @@
-use Rattle.std.proofs.Common.{ℕ, List, ap, ◌∙◌}
-use Rattle.view_pages.specs.Pair.{both_tables}
-use Rattle.view_page.proofs.Joined.{as_parts, ◌▹◌}
+use Rattle.std.proofs.lemmas.Result.{on_ok_weaker}
+use Rattle.view_page.proofs.Joined.{◌▹◌}
 use Rattle.view_pages.proofs.pair.push_pair_by_inodes.Goals as goal
 
 pub returns : goal.returns
 returns c =
-    c.in_ok-push_head.ensures ▹ c.in_ok-push_both_tiles.ensures ▹ c.in_ok-push_pairs.ensures
-    ▹ as_parts c.in_ok-push_both_tables.ensures
-    (ap (λ (ns : List ℕ). both_tables c.args.text.now ns c.args.first.now c.args.second.now)
-    (c.deref.ensures.value ∙ c.in_ok-numbers.ensures))
-    ▹ c.in_ok-push_parts.ensures
+    on_ok_weaker c.push_parts.result
+    (λ pushed. c.in_ok-push_head.ensures ▹ c.in_ok-push_both_tiles.ensures
+    ▹ c.in_ok-push_pairs.ensures ▹ c.in_ok-push_linked_tables.ensures ▹ pushed)
+    c.push_parts.ensures

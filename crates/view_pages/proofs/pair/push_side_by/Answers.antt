@@ -1,13 +1,9 @@
-use Rattle.std.proofs.Common.{[], ◌∷◌, ap}
-use Rattle.view_page.specs.declared.html.Section.TheVariants as section
-use Rattle.view_page.specs.declared.part.Part.{Part}
-use Rattle.view_page.specs.declared.part.Part.TheVariants as part
-use Rattle.view_page.proofs.Joined.{as_parts, ◌▹◌}
+use Rattle.std.proofs.lemmas.Result.{on_ok_weaker}
+use Rattle.view_page.proofs.Joined.{◌▹◌}
 use Rattle.view_pages.proofs.pair.push_side_by.Goals as goal
 
 pub returns : goal.returns
 returns c =
-    c.in_ok-push_heading.ensures ▹ c.in_ok-push_marked.ensures
-    ▹ as_parts c.in_ok-push_parts.ensures
-    (ap (λ (p : Part). p ∷ part.Section section.Close ∷ []) c.which.ensures)
-    ▹ c.in_ok-push_compared_by.ensures ▹ c.in_ok-push_at_end.ensures
+    on_ok_weaker c.push_at_end.result
+    (λ pushed. c.in_ok-push_side_heading.ensures ▹ c.in_ok-push_compared_by.ensures ▹ pushed)
+    c.push_at_end.ensures
