@@ -4,6 +4,7 @@ ghost use Rattle.std.specs.Prelude.{◌≡◌, ◌++◌, ◌≤◌, ◌<◌, len
 ghost use Rattle.view_page.specs.Parts.{Pushed};
 ghost use Rattle.view_sentences.specs.Sentences as spec;
 
+use crate::alike::opener;
 use crate::holders::holders;
 use report_read::{Deed, Event, Kind};
 use std::alloc::{AllocError as OutOfMemory, Global};
@@ -75,7 +76,7 @@ fn push_holder(
     ensures { OnOk result
         (Pushed text.now out.old.items out.new.items (spec.holder journal.now file)) }
 {
-    push_holder_by(out, text, file, journal.get(file as usize).copied())
+    push_holder_by(out, text, file, opener(journal, Some(file)))
 }
 
 fn push_comma(out: &mut Vec<u8>, text: &[u8], n: usize) -> Result<(), OutOfMemory>
