@@ -57,10 +57,9 @@ impl Order {
     pub fn then(&self, alloc: Global, task: u32) -> Result<Order, OutOfMemory>
         ensures { IfOk result (λ longer. longer ≡ self.now ++ task ∷ []) }
     {
-        let mut turns = Vec::new(alloc);
-        turns.extend_from_slice(self.turns.as_slice())?;
-        turns.push(task)?;
-        Ok(Order { turns })
+        let mut longer = self.copy(alloc)?;
+        longer.turns.push(task)?;
+        Ok(longer)
     }
 
     /// Whether these turns come before the others in lexicographic order.
@@ -76,11 +75,10 @@ fn first_of(alloc: Global, a: &Order, b: &Order) -> Result<Order, OutOfMemory>
     ensures { IfOk result (λ first. first ≡ first_of a.now b.now) }
 {
     if b.comes_before(a) {
-        let first = b.copy(alloc)?;
-        return Ok(first);
+        b.copy(alloc)
+    } else {
+        a.copy(alloc)
     }
-    let first = a.copy(alloc)?;
-    Ok(first)
 }
 
 /// An order, or its first turns, with a number of orders. Contracts see the record of the two.
