@@ -27,18 +27,19 @@ fn push_verdict(out: &mut Vec<u8>, verdict: Option<Verdict>) -> Result<(), OutOf
     }
 }
 
+// Prints whether the list had the content, and ends the line.
 fn push_listed(out: &mut Vec<u8>, listed: Option<bool>) -> Result<(), OutOfMemory>
-    ensures { OnOk result (out.new.items ≡ out.old.items ++ listed_text listed) }
+    ensures { OnOk result (out.new.items ≡ out.old.items ++ listed_text listed ++ codes "\n") }
 {
     match listed {
-        None => Ok(()),
-        Some(true) => out.extend_from_slice(b" listed"),
-        Some(false) => out.extend_from_slice(b" unlisted"),
+        None => out.extend_from_slice(b"\n"),
+        Some(true) => out.extend_from_slice(b" listed\n"),
+        Some(false) => out.extend_from_slice(b" unlisted\n"),
     }
 }
 
 // Prints what the journals say of a call: the verdict of its grant, and of a read whether the list
-// had the content.
+// had the content. This ends the line.
 fn push_said(
     alloc: Global,
     out: &mut Vec<u8>,
@@ -48,7 +49,7 @@ fn push_said(
 ) -> Result<(), OutOfMemory>
     ensures { OnOk result (out.new.items
         ≡ out.old.items ++ verdict_text (verdict_of task call ended.now.inodes)
-        ++ listed_text (listed_of ended.now.list task call ended.now.inodes)) }
+        ++ listed_text (listed_of ended.now.list task call ended.now.inodes) ++ codes "\n") }
 {
     let inodes = ended.inodes.as_slice();
     let listed = listed_of(alloc, ended.list.as_slice(), inodes, task, call)?;
@@ -71,8 +72,7 @@ fn push_call(
     push_number(out, call as u64)?;
     out.extend_from_slice(b" ")?;
     push_reply(out, reply)?;
-    push_said(alloc, out, ended, task, call)?;
-    out.extend_from_slice(b"\n")
+    push_said(alloc, out, ended, task, call)
 }
 
 // Prints the lines of the answered calls of a task.
