@@ -4,6 +4,7 @@ use Rattle.inode_cell.specs.Value.{CellValue}
 use Rattle.inode_events.specs.EndedInode.{EndedInodeValue}
 use Rattle.order_alike.specs.Alike.{AreIn}
 use Rattle.order_outcomes.specs.Orders.{left_at}
+use Rattle.run_model.specs.EndedValue.{EndedValue}
 use Rattle.run_model.specs.Scene.{Scene}
 use Rattle.run_model.specs.Turns.{Moment}
 use Rattle.task_core.specs.Cells.{IsCellAt}
@@ -22,16 +23,16 @@ pub record IsSight (scene : Scene) (m : Moment) (s : Sight) : Type 0 where
   pub even : length m.state.journals ≡ length scene.script_files
 
 -- there are as many inodes, and no appended rules
-pub record AreCountsSame (a b : Sight) : Type 0 where
-  pub inodes : length a.ended.inodes ≡ length b.ended.inodes
-  pub none : length a.ended.rules ≡ 0
-  pub none2 : length b.ended.rules ≡ 0
+pub record AreCountsSame (a b : EndedValue) : Type 0 where
+  pub inodes : length a.inodes ≡ length b.inodes
+  pub none : length a.rules ≡ 0
+  pub none2 : length b.rules ≡ 0
 
 -- and the measurement lists have the same entries
-pub record AreListsSame (a b : Sight) : Type 0 where
+pub record AreListsSame (a b : EndedValue) : Type 0 where
   pub counts : AreCountsSame a b
-  pub there : AreIn b.ended.list a.ended.list
-  pub back : AreIn a.ended.list b.ended.list
+  pub there : AreIn b.list a.list
+  pub back : AreIn a.list b.list
 
 -- the inode of this number is the same as the next steps see it, and its journals say the same of
 -- the calls

@@ -25,10 +25,11 @@ fn drops(event: &Event, file: u64) -> bool
     ensures { result ≡ drops file (dropped event.now.deed event.now.told) }
 {
     match (&event.deed, &event.told) {
-        (Deed::Close { file: f }, Told::Dropped) => *f == file,
-        (Deed::CloseTake { file: f }, Told::Dropped) => *f == file,
-        (Deed::CloseFinish { file: f }, Told::Dropped) => *f == file,
-        (Deed::CloseFinish { file: f }, Told::LabelledDropped) => *f == file,
+        (
+            Deed::Close { file: f } | Deed::CloseTake { file: f } | Deed::CloseFinish { file: f },
+            Told::Dropped,
+        )
+        | (Deed::CloseFinish { file: f }, Told::LabelledDropped) => *f == file,
         _ => false,
     }
 }

@@ -138,6 +138,5 @@ pub fn same_journals(
     if !same_calls(alloc, list, other, here, there, first)? {
         return Ok(false);
     }
-    let same = same_calls(alloc, list, other, here, there, second)?;
-    Ok(same)
+    same_calls(alloc, list, other, here, there, second)
 }

@@ -45,7 +45,7 @@ fn same_inode(
     if !same_cell(cell, other) {
         return Ok(false);
     }
-    let same = same_journals(
+    same_journals(
         alloc,
         a.ended.list.as_slice(),
         b.ended.list.as_slice(),
@@ -53,8 +53,7 @@ fn same_inode(
         i,
         a.ended.inodes.as_slice(),
         b.ended.inodes.as_slice(),
-    )?;
-    Ok(same)
+    )
 }
 
 // Whether that holds of all inodes.
@@ -72,23 +71,21 @@ fn same_inodes(alloc: Global, pairs: &[Pair], a: &Sight, b: &Sight) -> Result<bo
 }
 
 // Whether there are as many inodes, and no appended rules.
-fn same_counts(a: &Sight, b: &Sight) -> bool
+fn same_counts(a: &Ended, b: &Ended) -> bool
     ensures { IsTrue result → AreCountsSame a.now b.now }
 {
-    a.ended.inodes.len() == b.ended.inodes.len()
-        && a.ended.rules.len() == 0
-        && b.ended.rules.len() == 0
+    a.inodes.len() == b.inodes.len() && a.rules.len() == 0 && b.rules.len() == 0
 }
 
 // Whether that holds and the measurement lists have the same entries.
-fn same_lists(a: &Sight, b: &Sight) -> bool
+fn same_lists(a: &Ended, b: &Ended) -> bool
     ensures { IsTrue result → AreListsSame a.now b.now }
 {
     if !same_counts(a, b) {
         return false;
     }
-    let list = a.ended.list.as_slice();
-    let other = b.ended.list.as_slice();
+    let list = a.list.as_slice();
+    let other = b.list.as_slice();
     if !are_in(other, list) {
         return false;
     }
@@ -108,7 +105,7 @@ pub fn are_alike(alloc: Global, a: &Sight, b: &Sight) -> Result<bool, OutOfMemor
     ensures { IfOk result (λ alike. IsTrue alike → (scene : Scene) (m n : Moment)
         → IsSight scene m a.now → IsSight scene n b.now → IsAlike scene m n) }
 {
-    if !same_lists(a, b) {
+    if !same_lists(&a.ended, &b.ended) {
         return Ok(false);
     }
     let inodes = a.ended.inodes.len();
@@ -120,6 +117,5 @@ pub fn are_alike(alloc: Global, a: &Sight, b: &Sight) -> Result<bool, OutOfMemor
     if !same_tasks(pairs, a.tasks.as_slice(), b.tasks.as_slice()) {
         return Ok(false);
     }
-    let same = same_inodes(alloc, pairs, a, b)?;
-    Ok(same)
+    same_inodes(alloc, pairs, a, b)
 }

@@ -68,20 +68,14 @@ impl Taken {
             ≡ taken_after event.now.deed event.now.told content.now self.old) }
     {
         match (&event.deed, &event.told) {
-            (Deed::Take { .. } | Deed::CloseTake { .. }, Told::Begun) => {
+            (Deed::Take { .. } | Deed::CloseTake { .. }, Told::Begun)
+            | (Deed::Finish { .. }, Told::Grant(_))
+            | (Deed::CloseFinish { .. }, Told::Dropped | Told::LabelledDropped) => {
                 *self = Taken::new(alloc);
                 Ok(())
             }
             (Deed::Chunk { .. } | Deed::CloseChunk { .. }, Told::More | Told::Last) => {
                 self.take_piece(alloc, content)
-            }
-            (Deed::Finish { .. }, Told::Grant(_)) => {
-                *self = Taken::new(alloc);
-                Ok(())
-            }
-            (Deed::CloseFinish { .. }, Told::Dropped | Told::LabelledDropped) => {
-                *self = Taken::new(alloc);
-                Ok(())
             }
             _ => Ok(()),
         }

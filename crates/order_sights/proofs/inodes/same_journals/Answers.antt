@@ -1,11 +1,14 @@
 use Rattle.std.proofs.Common.{◌∙◌, ap}
 use Rattle.std.proofs.lemmas.Option.{get_or_from_slice_get}
+use Rattle.std.proofs.lemmas.Result.{IfOk-weaker}
 use Rattle.inode_events.specs.EndedInode.{EndedInodeValue}
 use Rattle.order_sights.proofs.Journals.{journals_same}
 use Rattle.order_sights.proofs.inodes.same_journals.Goals as goal
 
 pub returns : goal.returns
-returns c = λ t x y at at2.
+returns c =
+    IfOk-weaker c.same_calls-2.result _ _
+    (λ same calls t x y at at2.
     journals_same c.args.list.now c.args.other.now c.args.pairs.now c.args.i x y _ _ _ _
     (c.as_slice-first.ensures.value ∙ ap (λ (e : EndedInodeValue). e.journal) (c.inode.view_is
     ∙ c.index-a-i.is ∙ get_or_from_slice_get c.args.a.now c.args.i x c.index-a-i.result at))
@@ -16,4 +19,5 @@ returns c = λ t x y at at2.
     (c.in_ok-same_entries.ensures c.if-not-branch.false)
     (c.in_ok-same_taken.ensures c.if-not-branch-2.false)
     (c.in_ok-same_calls.ensures c.if-not-branch-3.false)
-    (c.in_ok-same.ensures t)
+    (calls t))
+    c.same_calls-2.ensures

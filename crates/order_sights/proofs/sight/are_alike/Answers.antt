@@ -1,5 +1,6 @@
 use Rattle.std.proofs.Common.{◌≡◌, ◌∙◌, true, List, length, map, ap, sym, subst, arith}
 use Rattle.std.proofs.lemmas.List.{nil_from_length}
+use Rattle.std.proofs.lemmas.Result.{IfOk-weaker}
 use Rattle.task_core.specs.worlds.Runs.{position_of}
 use Rattle.task_core.specs.worlds.Tasks.{Tasked}
 use Rattle.order_sights.specs.Pairs.{ArePositionsPaired, are_within}
@@ -8,7 +9,7 @@ use Rattle.order_sights.proofs.Meeting.{alike}
 use Rattle.order_sights.proofs.sight.are_alike.Goals as goal
 
 pub returns : goal.returns
-returns c = λ t scene m n one two.
+returns c =
     let lists = c.same_lists.ensures c.if-not-same_lists.false in
     let ok = c.are_pairs.ensures c.if-not-are_pairs.false in
     let pairs = c.as_slice-pairs.result.now in
@@ -16,6 +17,8 @@ returns c = λ t scene m n one two.
     let view = ap (λ (s : Sight). length s.ended.inodes) c.a.view_is in
     let count : c.len-inodes.result ≡ length c.args.a.now.ended.inodes =
     omega (arith, len, view) in
+    IfOk-weaker c.same_inodes.result _ _
+    (λ same inodes t scene m n one two.
     alike scene m n c.args.a.now c.args.b.now one two pairs ok.apart
     (subst (λ n. are_within n pairs ≡ true) count ok.within)
     lists.there lists.back (nil_from_length c.args.a.now.ended.rules lists.counts.none)
@@ -26,4 +29,5 @@ returns c = λ t scene m n one two.
     (map position_of c.as_slice-4.result.now))
     (c.as_slice-3.ensures.value ∙ ap (λ (s : Sight). s.tasks.items) c.a.view_is)
     (c.same_tasks.ensures c.if-not-same_tasks.false)))
-    (c.in_ok-same.ensures t)
+    (inodes t))
+    c.same_inodes.ensures

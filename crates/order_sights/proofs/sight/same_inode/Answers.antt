@@ -1,11 +1,14 @@
-use Rattle.std.proofs.Common.{refl}
+use Rattle.std.proofs.lemmas.Result.{IfOk-weaker}
 use Rattle.order_sights.proofs.Founding.{inode_found}
 use Rattle.order_sights.proofs.sight.same_inode.Goals as goal
 
 pub returns : goal.returns
-returns c = λ t.
+returns c =
+    IfOk-weaker c.same_journals.result _ _
+    (λ same journals t.
     inode_found c.args.pairs.now c.args.i c.args.a.now c.args.b.now _ _ c.a.view_is c.b.view_is
     c.in-Some-Some.cell.now c.in-Some-Some.other.now _ _ _ _ c.in-Some-Some.ensures
     c.in-Some-Some.ensures' (c.same_cell.ensures c.if-not-same_cell.false) c.as_slice.ensures.value
     c.as_slice-2.ensures.value c.as_slice-3.ensures.value c.as_slice-4.ensures.value
-    (c.in_ok-same.ensures t)
+    (journals t))
+    c.same_journals.ensures
