@@ -3,6 +3,7 @@
 use crate::sight::Sight;
 use inode_cell::InodeCell;
 use inode_events::templates::Entry;
+use task_core::Task;
 use task_state::TaskState;
 
 const FIRST: u64 = 0xcbf2_9ce4_8422_2325;
@@ -12,16 +13,28 @@ fn mixed(mark: u64, number: u64) -> u64 {
     (mark ^ number).wrapping_mul(0x100_0000_01b3)
 }
 
+fn with_bytes(mark: u64, bytes: &[u8]) -> u64 {
+    let mut mark = mark;
+    for byte in bytes {
+        mark = mixed(mark, u64::from(*byte));
+    }
+    mark
+}
+
 // One of 64 bits, by the entry. Such bits together don't depend on the order of the entries.
 fn bit_of(entry: &Entry) -> u64 {
-    let mut mark = mixed(FIRST, u64::from(entry.violation));
-    for byte in entry.digest.as_slice() {
-        mark = mixed(mark, u64::from(*byte));
-    }
-    for byte in entry.name.as_slice() {
-        mark = mixed(mark, u64::from(*byte));
-    }
+    let mark = mixed(FIRST, u64::from(entry.violation));
+    let mark = with_bytes(mark, entry.digest.as_slice());
+    let mark = with_bytes(mark, entry.name.as_slice());
     1 << (mark >> 32) % 64
+}
+
+fn bits_of(list: &[Entry]) -> u64 {
+    let mut bits = 0;
+    for entry in list {
+        bits |= bit_of(entry);
+    }
+    bits
 }
 
 fn with_task_state(mark: u64, task_state: &TaskState) -> u64 {
@@ -32,6 +45,14 @@ fn with_task_state(mark: u64, task_state: &TaskState) -> u64 {
     let mark = mixed(mark, u64::from(task_state.at()));
     let mark = mixed(mark, step);
     mixed(mark, task_state.handles().len() as u64)
+}
+
+fn with_tasks(mark: u64, tasks: &[Task]) -> u64 {
+    let mut mark = mark;
+    for task in tasks {
+        mark = with_task_state(mark, task.task_state());
+    }
+    mark
 }
 
 fn with_inode(mark: u64, cell: &InodeCell) -> u64 {
@@ -51,14 +72,8 @@ fn with_inode(mark: u64, cell: &InodeCell) -> u64 {
 impl Sight {
     /// A number that is the same for most sights that are alike, and differs for most others.
     pub fn mark(&self) -> u64 {
-        let mut bits = 0;
-        for entry in &self.ended.list {
-            bits |= bit_of(entry);
-        }
-        let mut mark = mixed(FIRST, bits);
-        for task in &self.tasks {
-            mark = with_task_state(mark, task.task_state());
-        }
+        let mark = mixed(FIRST, bits_of(self.ended.list.as_slice()));
+        let mut mark = with_tasks(mark, self.tasks.as_slice());
         for i in 0..self.ended.inodes.len() {
             if let Some(cell) = self.world.inode(i) {
                 mark = with_inode(mark, cell);

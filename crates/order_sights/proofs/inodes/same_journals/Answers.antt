@@ -1,6 +1,7 @@
-use Rattle.std.proofs.Common.{◌∙◌, ap}
+use Rattle.std.proofs.Common.{◌∙◌, ap, sym}
+use Rattle.std.proofs.lemmas.Bool.{true≢false}
 use Rattle.std.proofs.lemmas.Option.{get_or_from_slice_get}
-use Rattle.std.proofs.lemmas.Result.{IfOk-weaker}
+use Rattle.std.proofs.lemmas.Result.{IfOk-weaker, err_from_is_err_and}
 use Rattle.inode_events.specs.EndedInode.{EndedInodeValue}
 use Rattle.order_sights.proofs.Journals.{journals_same}
 use Rattle.order_sights.proofs.inodes.same_journals.Goals as goal
@@ -21,3 +22,30 @@ returns c =
     (c.in_ok-same_calls.ensures c.if-not-branch-3.false)
     (calls t))
     c.same_calls-2.ensures
+
+pub returns-in_err-same_entries : goal.returns-in_err-same_entries
+returns-in_err-same_entries c =
+    let p = err_from_is_err_and c.from_residual.result c.from_residual.ensures.1 in
+    rw (p.1) tt
+
+pub returns-in_err-same_taken : goal.returns-in_err-same_taken
+returns-in_err-same_taken c =
+    let p = err_from_is_err_and c.from_residual-in_err-same_taken.result c.from_residual-in_err-same_taken.ensures.1 in
+    rw (p.1) tt
+
+pub returns-in_err-same_calls : goal.returns-in_err-same_calls
+returns-in_err-same_calls c =
+    let p = err_from_is_err_and c.from_residual-in_err-same_calls.result c.from_residual-in_err-same_calls.ensures.1 in
+    rw (p.1) tt
+
+pub returns-then-not-same_files : goal.returns-then-not-same_files
+returns-then-not-same_files c = λ t. absurd (true≢false (sym t))
+
+pub returns-then-not-branch : goal.returns-then-not-branch
+returns-then-not-branch c = λ t. absurd (true≢false (sym t))
+
+pub returns-then-not-branch-2 : goal.returns-then-not-branch-2
+returns-then-not-branch-2 c = λ t. absurd (true≢false (sym t))
+
+pub returns-then-not-branch-3 : goal.returns-then-not-branch-3
+returns-then-not-branch-3 c = λ t. absurd (true≢false (sym t))

@@ -1,6 +1,7 @@
 use Rattle.std.proofs.Common.{◌≡◌, ◌∙◌, true, List, length, map, ap, sym, subst, arith}
+use Rattle.std.proofs.lemmas.Bool.{true≢false}
 use Rattle.std.proofs.lemmas.List.{nil_from_length}
-use Rattle.std.proofs.lemmas.Result.{IfOk-weaker}
+use Rattle.std.proofs.lemmas.Result.{IfOk-weaker, err_from_is_err_and}
 use Rattle.task_core.specs.worlds.Runs.{position_of}
 use Rattle.task_core.specs.worlds.Tasks.{Tasked}
 use Rattle.order_sights.specs.Pairs.{ArePositionsPaired, are_within}
@@ -31,3 +32,17 @@ returns c =
     (c.same_tasks.ensures c.if-not-same_tasks.false)))
     (inodes t))
     c.same_inodes.ensures
+
+pub returns-in_err-pairs : goal.returns-in_err-pairs
+returns-in_err-pairs c =
+    let p = err_from_is_err_and c.from_residual.result c.from_residual.ensures.1 in
+    rw (p.1) tt
+
+pub returns-then-not-same_lists : goal.returns-then-not-same_lists
+returns-then-not-same_lists c = λ t. absurd (true≢false (sym t))
+
+pub returns-then-not-are_pairs : goal.returns-then-not-are_pairs
+returns-then-not-are_pairs c = λ t. absurd (true≢false (sym t))
+
+pub returns-then-not-same_tasks : goal.returns-then-not-same_tasks
+returns-then-not-same_tasks c = λ t. absurd (true≢false (sym t))

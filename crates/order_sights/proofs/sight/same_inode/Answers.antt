@@ -1,3 +1,5 @@
+use Rattle.std.proofs.Common.{sym}
+use Rattle.std.proofs.lemmas.Bool.{true≢false}
 use Rattle.std.proofs.lemmas.Result.{IfOk-weaker}
 use Rattle.order_sights.proofs.Founding.{inode_found}
 use Rattle.order_sights.proofs.sight.same_inode.Goals as goal
@@ -12,3 +14,9 @@ returns c =
     c.as_slice-2.ensures.value c.as_slice-3.ensures.value c.as_slice-4.ensures.value
     (journals t))
     c.same_journals.ensures
+
+pub returns-in_default : goal.returns-in_default
+returns-in_default c = λ t. absurd (true≢false (sym t))
+
+pub returns-then-not-same_cell : goal.returns-then-not-same_cell
+returns-then-not-same_cell c = λ t. absurd (true≢false (sym t))

@@ -1,7 +1,9 @@
-use Rattle.std.proofs.Common.{List, subst}
+use Rattle.std.proofs.Common.{List, subst, sym}
+use Rattle.std.proofs.lemmas.Bool.{true≢false}
 use Rattle.std.specs.Prelude.{All}
 use Rattle.std.proofs.lemmas.List.{take_all}
 use Rattle.std.proofs.lemmas.List.Elements.{All-more}
+use Rattle.std.proofs.lemmas.Result.{err_from_is_err_and}
 use Rattle.inode_events.specs.declared.told.Event.{Event}
 use Rattle.order_sights.specs.Told.{IsCallSame}
 use Rattle.order_sights.proofs.told.same_calls.Goals as goal
@@ -24,3 +26,14 @@ returns c = λ _.
     All (IsCallSame c.args.list.now c.args.other.now c.args.a.now c.args.b.now) es)
     (take_all c.loop-event.event-index c.args.journal.now c.loop-event-test.false)
     c.loop-event.invariant
+
+pub returns-in_err-same_listed : goal.returns-in_err-same_listed
+returns-in_err-same_listed c =
+    let p = err_from_is_err_and c.from_residual.result c.from_residual.ensures.1 in
+    rw (p.1) tt
+
+pub returns-then-not-same_verdict : goal.returns-then-not-same_verdict
+returns-then-not-same_verdict c = λ t. absurd (true≢false (sym t))
+
+pub returns-then-not-branch : goal.returns-then-not-branch
+returns-then-not-branch c = λ t. absurd (true≢false (sym t))

@@ -1,5 +1,7 @@
-use Rattle.std.proofs.Common.{ℕ, List, ◌<◌, length, subst}
+use Rattle.std.proofs.Common.{ℕ, List, ◌<◌, length, subst, sym}
+use Rattle.std.proofs.lemmas.Bool.{true≢false}
 use Rattle.std.specs.Prelude.{All}
+use Rattle.std.proofs.lemmas.Result.{err_from_is_err_and}
 use Rattle.order_sights.specs.Told.{IsThere}
 use Rattle.order_sights.proofs.told.same_entries.Goals as goal
 
@@ -27,3 +29,22 @@ returns c = λ t.
           (subst (λ (ps : List ℕ). All (IsThere list ps other) c.as_slice-there.result.now) here
           (c.are_there-2.ensures t));
     }
+
+pub returns-in_err-places : goal.returns-in_err-places
+returns-in_err-places c =
+    let p = err_from_is_err_and c.from_residual.result c.from_residual.ensures.1 in
+    rw (p.1) tt
+
+pub returns-in_err-others : goal.returns-in_err-others
+returns-in_err-others c =
+    let p = err_from_is_err_and c.from_residual-in_err-others.result c.from_residual-in_err-others.ensures.1 in
+    rw (p.1) tt
+
+pub returns-then-not-are_below : goal.returns-then-not-are_below
+returns-then-not-are_below c = λ t. absurd (true≢false (sym t))
+
+pub returns-then-not-are_below-2 : goal.returns-then-not-are_below-2
+returns-then-not-are_below-2 c = λ t. absurd (true≢false (sym t))
+
+pub returns-then-not-are_there : goal.returns-then-not-are_there
+returns-then-not-are_there c = λ t. absurd (true≢false (sym t))
