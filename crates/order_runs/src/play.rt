@@ -78,9 +78,7 @@ impl Play {
         ensures { IfOk result (λ r. IsRunTo self.now turns.now r.0 r.1.items) }
     {
         let script = self.script(alloc)?;
-        let (world, tasks, _ending) = started(alloc, script)?;
-        let mut world = world;
-        let mut tasks = tasks;
+        let (mut world, mut tasks, _ending) = started(alloc, script)?;
         run_schedule(&mut world, &mut tasks, turns.as_slice(), gate)?;
         Ok((world, tasks))
     }

@@ -1,6 +1,6 @@
 //! Turns each of which moves its task, and the run that stops after them.
 
-ghost use Rattle.std.specs.Prelude.{◌≡◌, [], ◌<◌, ◌≤◌, None, Some, if◌then◌else◌, length, IfOk, MatchOption};
+ghost use Rattle.std.specs.Prelude.{◌≡◌, ◌<◌, ◌≤◌, None, Some, length, IfOk, MatchOption};
 ghost use Rattle.order_outcomes.specs.Made.{made_of};
 ghost use Rattle.order_outcomes.specs.Orders.{moment_after, moved};
 ghost use Rattle.order_outcomes.specs.reports.model.Turns.{Moment};
@@ -47,21 +47,6 @@ fn stopped<G: Gate>(
     })
 }
 
-// The point without turns.
-fn start<G: Gate>(alloc: Global, play: &Play, gate: &G) -> Result<Point, OutOfMemory>
-    ensures { IfOk result (IsPointOf play.now []) }
-{
-    let point = stopped(alloc, play, Order::new(alloc), gate)?;
-    Ok(point)
-}
-
-// The point, if its last turn moves its task.
-fn point_if(moves: bool, point: Point) -> Option<Point>
-    ensures { result ≡ (if moves then Some point else None) }
-{
-    moves.then_some(point)
-}
-
 /// The point after one turn of the task more, if the turn moves it.
 pub fn turned<G: Gate>(
     alloc: Global,
@@ -79,7 +64,7 @@ pub fn turned<G: Gate>(
     let turns = point.turns.then(alloc, task)?;
     let longer = stopped(alloc, play, turns, gate)?;
     let moves = !longer.made.is_same(point.made);
-    Ok(point_if(moves, longer))
+    Ok(moves.then_some(longer))
 }
 
 // The point after one turn more of a task that the play may not have.
@@ -112,7 +97,7 @@ pub fn reached<G: Gate>(
     ensures { IfOk result (λ o. MatchOption o (moment_after play.now turns.now ≡ None)
         (IsPointOf play.now turns.now)) }
 {
-    let mut point = start(alloc, play, gate)?;
+    let mut point = stopped(alloc, play, Order::new(alloc), gate)?;
     for task in turns {
         match turned_by(alloc, play, point, *task, gate)? {
             Some(longer) => point = longer,

@@ -54,9 +54,11 @@ fn lengthened<G: Gate>(
     ensures { IfOk result (λ longer. (m : Moment) → led_on part.now way.now.counted.order ≡ Some m
         → IsTurned part.now way.now task (moved part.now.play m task) longer) }
 {
-    let counted = way.counted.then(alloc, task)?;
     match turned(alloc, &part.play, &way.point, task, gate)? {
-        Some(point) => Ok(Some(Way { counted, point })),
+        Some(point) => {
+            let counted = way.counted.then(alloc, task)?;
+            Ok(Some(Way { counted, point }))
+        }
         None => Ok(None),
     }
 }

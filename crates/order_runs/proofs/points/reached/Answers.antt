@@ -1,10 +1,16 @@
-use Rattle.std.proofs.Common.{List, ℕ, Option, ap, arith, get_or, length, refl, subst}
+use Rattle.std.proofs.Common.{List, ℕ, Option, ap, arith, get_or, length, refl, subst, sym, ◌∙◌}
 use Rattle.std.proofs.lemmas.List.{length-take-le, take_all}
 use Rattle.order_outcomes.specs.Orders.{moved}
 use Rattle.order_runs.specs.Points.{IsMoved, IsPointOf}
+use Rattle.order_runs.specs.Plays.{IsSchedule, moment_by}
 use Rattle.order_runs.specs.declared.points.Point.{Point}
-use Rattle.order_runs.proofs.Pointing.{leads_nowhere, point_on}
+use Rattle.order_sights.specs.Sights.{IsSight}
+use Rattle.order_runs.proofs.Pointing.{leads_nowhere, none_fits, point_on, start_point}
 use Rattle.order_runs.proofs.points.reached.Goals as goal
+
+pub stopped-requires : goal.stopped-requires
+stopped-requires g c =
+    subst (IsSchedule c.args.play.now) (sym c.new.ensures) (none_fits c.args.play.now)
 
 pub turned_by-requires-clause-point : goal.turned_by-requires-clause-point
 turned_by-requires-clause-point g c = c.loop-task.invariant.1
@@ -16,7 +22,11 @@ turned_by-requires-clause-turns g c =
     omega (arith, so_far, long, c.requires, c.loop-task-test.true)
 
 pub loop-task-init : goal.loop-task-init
-loop-task-init g c = c.in_ok-point.ensures
+loop-task-init g c =
+    start_point c.args.play.now c.in_ok-point.point
+    (c.in_ok-point.ensures.turns ∙ c.new.ensures) c.in_ok-point.ensures.made
+    (subst (λ (turns : List ℕ). IsSight c.args.play.now (moment_by c.args.play.now turns)
+    c.in_ok-point.point.sight) c.new.ensures c.in_ok-point.ensures.sight)
 
 pub loop-task-preserved : goal.loop-task-preserved
 loop-task-preserved g c =

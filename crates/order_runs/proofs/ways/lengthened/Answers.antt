@@ -16,12 +16,12 @@ returns-in-None g c =
     (subst (λ (o : Option Point). IsMoved play c.args.way.now.point c.args.task
     (moved play k.at c.args.task) o) c.in-None.is (c.in_ok-point.ensures k.at k.point.leads))
 
-pub returns-in-Some : goal.returns-in-Some
-returns-in-Some g c =
+pub returns-in_ok-counted-in-Some : goal.returns-in_ok-counted-in-Some
+returns-in_ok-counted-in-Some g c =
     let play = c.args.part.now.play in
     let k = c.requires.kept in
     longer_some c.args.part.now c.args.way.now k c.args.task c.in-Some.point
     (subst (λ (o : Option Point). IsMoved play c.args.way.now.point c.args.task
     (moved play k.at c.args.task) o) c.in-Some.is (c.in_ok-point.ensures k.at k.point.leads))
-    (record { counted = c.in_ok-counted.counted; point = c.in-Some.point })
-    c.in_ok-counted.ensures refl
+    (record { counted = c.in_ok-counted-in-Some.counted; point = c.in-Some.point })
+    c.in_ok-counted-in-Some.ensures refl
