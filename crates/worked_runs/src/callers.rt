@@ -124,10 +124,10 @@ fn all_callers(alloc: Global) -> Result<BufferText, ScriptErr> {
     callers_of(alloc, text.as_str())
 }
 
-/// Whether 64 callers on 16 threads share one list: each of its entries but the first was added by
-/// one of them, and all others have found it there, in each of a hundred runs. They don't if memory
-/// runs out.
-pub fn buffers_are_shared<R: Threads + Wait + Sync>(rt: &R, alloc: Global) -> bool {
+// Whether 64 callers on 16 threads share one list: each of its entries but the first was added by
+// one of them, and all others have found it there, in each of a hundred runs. They don't if memory
+// runs out.
+fn buffers_are_shared<R: Threads + Wait + Sync>(rt: &R, alloc: Global) -> bool {
     match all_callers(alloc) {
         Ok(callers) => runs_are_shared(rt, alloc, &callers),
         Err(_) => false,
@@ -141,12 +141,22 @@ const TWO: &str = "# meet\nimabuffers 1\n\
     caller uid=0 euid=0 gid=0 egid=0\ncritical b txt:b\n\
     threads 2\n";
 
-/// Whether two callers that wait for each other before their first buffers meet there if
-/// `measure_all` is called without a command around it. They don't if memory runs out.
-pub fn callers_meet<R: Threads + Wait + Sync>(rt: &R, alloc: Global) -> bool {
+// Whether two callers that wait for each other before their first buffers meet there if
+// `measure_all` is called without a command around it. They don't if memory runs out.
+fn callers_meet<R: Threads + Wait + Sync>(rt: &R, alloc: Global) -> bool {
     let gate = CaseGate::of(TWO);
     match callers_of(alloc, TWO) {
         Ok(callers) => measure_all(rt, alloc, &callers, &gate).is_ok() && gate.is_well(),
         Err(_) => false,
     }
+}
+
+/// What is tried of callers side by side, and whether it holds.
+pub fn tried<R: Threads + Wait + Sync>(rt: &R, alloc: Global) -> [(&'static str, bool); 2] {
+    let alone = callers_meet(rt, alloc);
+    let shared = buffers_are_shared(rt, alloc);
+    [
+        ("two of them meet without a command", alone),
+        ("64 of them measure the same buffers", shared),
+    ]
 }

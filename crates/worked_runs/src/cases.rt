@@ -1,6 +1,6 @@
 // A case of a family, and the check of an outcome against it.
 use crate::cuts::{cut, number};
-use crate::outcome::Outcome;
+use crate::outcome::{Call, Outcome};
 use std::str;
 
 /// One case, in the form of its text:
@@ -17,10 +17,10 @@ use std::str;
 /// the line on the note; if this part is missing, the note is empty
 /// ```
 ///
-/// A part `has` in place of `writes` lists only some lines of the output: each must be in the
-/// output, in this order, and a line that ends in ` ..` stands for any line that begins with the
-/// text before it. The part `anywhere` is for lines whose order and numbers depend on how the
-/// threads' steps fall.
+/// A part `has` in place of `writes` lists only some lines of the output, all of whose lines end in
+/// a line feed alone: each must be in the output, in this order, and a line that ends in ` ..`
+/// stands for any line that begins with the text before it. The part `anywhere` is for lines whose
+/// order and numbers depend on how the threads' steps fall.
 ///
 /// A text that repeats itself is written short, as `spread` reads it. The first line of an input
 /// can name a gate: after `# order TASK.CALL.STEP ..` these steps come in this order, after
@@ -61,6 +61,11 @@ impl<'a> Case<'a> {
         }
     }
 
+    /// The call of the case.
+    pub fn call(&self) -> Call<'a> {
+        Call::sound(self.words, self.input.as_bytes())
+    }
+
     /// Whether the outcome meets the case.
     pub fn holds(&self, got: &Outcome) -> bool {
         let told = got.status as u32 == self.status && got.note() == self.note.as_bytes();
@@ -75,42 +80,45 @@ impl<'a> Case<'a> {
         let well = if self.whole {
             text == self.out
         } else {
-            has_lines(text, self.out)
+            are_lines(out) && has_lines(text, self.out)
         };
         well && has_ends(text, self.anywhere)
     }
 }
 
-// Whether the output has all of these lines, in this order.
-fn has_lines(out: &str, lines: &str) -> bool {
-    let mut found = 0usize;
-    for line in out.split("\n") {
-        if is_line_at(lines, found, line) {
-            found = found.saturating_add(1);
-        }
-    }
-    found == lines.split("\n").count()
+// Whether the bytes are lines, each of which ends in a line feed alone.
+fn are_lines(out: &[u8]) -> bool {
+    out.ends_with(b"\n") && !out.contains(&b'\r')
 }
 
-// Whether the line is the wanted one of this place.
-fn is_line_at(lines: &str, place: usize, line: &str) -> bool {
-    match lines.split("\n").nth(place) {
-        Some(want) => is_wanted(line, want),
-        None => false,
+// Whether the output has all of these lines, in this order.
+fn has_lines(out: &str, lines: &str) -> bool {
+    let mut lines = lines.lines();
+    let mut want = lines.next();
+    for line in out.lines() {
+        if is_wanted(line, want) {
+            want = lines.next();
+        }
     }
+    want.is_none()
 }
 
 // Whether the line is `want` or, if that has ` ..`, begins with the text before it.
-fn is_wanted(line: &str, want: &str) -> bool {
-    match want.split_once(" ..") {
-        Some((front, _)) => line.starts_with(front),
-        None => want == line,
+fn is_wanted(line: &str, want: Option<&str>) -> bool {
+    let Some(want) = want else {
+        return false;
+    };
+    let (front, _) = cut(want, " ..");
+    if front.len() < want.len() {
+        line.as_bytes().starts_with(front.as_bytes())
+    } else {
+        line == want
     }
 }
 
 // Whether each of these is the end of some line of the output.
 fn has_ends(out: &str, ends: &str) -> bool {
-    for end in ends.split("\n") {
+    for end in ends.lines() {
         if !has_end(out, end) {
             return false;
         }
@@ -120,8 +128,8 @@ fn has_ends(out: &str, ends: &str) -> bool {
 
 // Whether some line of the output ends in `end`.
 fn has_end(out: &str, end: &str) -> bool {
-    for line in out.split("\n") {
-        if line.ends_with(end) {
+    for line in out.lines() {
+        if line.as_bytes().ends_with(end.as_bytes()) {
             return true;
         }
     }

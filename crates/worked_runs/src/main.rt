@@ -35,11 +35,10 @@ mod spread;
 
 use crate::cases::Case;
 use crate::cuts::cut;
-use crate::faults::FAULTS;
 use crate::gates::CaseGate;
-use crate::outcome::{Outcome, SOUND, answer_over};
+use crate::outcome::{Outcome, answer_over};
 use crate::spread::spread;
-use std::alloc::Global;
+use std::alloc::{AllocError as OutOfMemory, Global};
 use std::io::{Error, ErrorKind};
 use std::sync::Wait;
 use std::thread::Threads;
@@ -83,10 +82,16 @@ fn main(rt: HostRuntime) -> io::Result<()> {
     let mut all = true;
     for (family, times) in &FAMILIES {
         let text = text_of(&rt, family)?;
-        all = family_holds(&rt, rt.alloc(), family, *times, &text)? && all;
+        all &= family_holds(&rt, rt.alloc(), family, *times, text.as_str())?;
     }
     let text = text_of(&rt, "measuring")?;
-    if others_hold(&rt, rt.alloc(), &text)? && all {
+    all &= others_hold(&rt, rt.alloc(), &first_of(text.as_str()))?;
+    ended(all)
+}
+
+// The end of the program, if all holds or not.
+fn ended(all: bool) -> io::Result<()> {
+    if all {
         Ok(())
     } else {
         Err(Error::from(ErrorKind::Other))
@@ -111,12 +116,12 @@ fn family_holds<R: Print + Threads + Wait + Sync>(
     let mut all = true;
     let (_, cases) = cut(text, ">>> ");
     for text in cases.split(">>> ") {
-        all = text_holds(rt, alloc, family, times, text)? && all;
+        all &= text_holds(rt, alloc, family, times, text)?;
     }
     Ok(all)
 }
 
-// Runs the case of this text so often.
+// Runs the case of this text so often, and prints what it answers if that differs.
 fn text_holds<R: Print + Threads + Wait + Sync>(
     rt: &R,
     alloc: Global,
@@ -126,34 +131,31 @@ fn text_holds<R: Print + Threads + Wait + Sync>(
 ) -> io::Result<bool> {
     let case = Case::of(text);
     for _ in 0..times {
-        if !case_holds(rt, alloc, family, &case)? {
-            return Ok(false);
+        if let Some(got) = differing(rt, alloc, &case)? {
+            return tell(rt, family, case.name, &got);
         }
     }
     row(rt, family, case.name, true)
 }
 
-// Runs the case once, and prints what it answers if it differs.
-fn case_holds<R: Print + Threads + Wait + Sync>(
+// Runs the case once. Returns what it answers if that, or the order of steps, differs.
+fn differing<R: Threads + Wait + Sync>(
     rt: &R,
     alloc: Global,
-    family: &str,
     case: &Case<'_>,
-) -> io::Result<bool> {
+) -> Result<Option<Outcome>, OutOfMemory> {
     let gate = CaseGate::of(case.input);
-    let input = case.input.as_bytes();
-    let got = answer_over(rt, alloc, case.words, input, SOUND, &gate)?;
+    let got = answer_over(rt, alloc, case.call(), &gate)?;
     if case.holds(&got) && gate.is_well() {
-        Ok(true)
-    } else {
-        tell(rt, family, case.name, &got)
+        return Ok(None);
     }
+    Ok(Some(got))
 }
 
 // Prints an outcome that differs, and returns that the case doesn't hold.
 fn tell(rt: &impl Print, family: &str, name: &str, got: &Outcome) -> io::Result<bool> {
-    println!(rt; "{family}: {name}: DIFFERS: {}", got.status)?;
-    println!(rt; "{}{}", shown(got.out()), shown(got.note()))?;
+    let (out, note) = (shown(got.out()), shown(got.note()));
+    println!(rt; "{family}: {name}: DIFFERS: {}\n{out}{note}", got.status)?;
     Ok(false)
 }
 
@@ -168,49 +170,31 @@ fn row(rt: &impl Print, family: &str, name: &str, holds: bool) -> io::Result<boo
     Ok(holds)
 }
 
-// Whether all else holds: the faults, the callers and the files.
-fn others_hold<R: Print + Threads + Wait + Sync>(
-    rt: &R,
-    alloc: Global,
-    text: &str,
-) -> io::Result<bool> {
-    let faults = faults_hold(rt, alloc, text)?;
-    let callers = callers_hold(rt, alloc)?;
-    Ok(faults && callers)
-}
-
-// Tries the faults on the first case of this text.
-fn faults_hold<R: Print + Threads + Wait + Sync>(
-    rt: &R,
-    alloc: Global,
-    text: &str,
-) -> io::Result<bool> {
-    let (_, cases) = cut(text, ">>> ");
-    let (first, _) = cut(cases, ">>> ");
-    all_faults_hold(rt, alloc, &Case::of(first))
-}
-
-// Tries the faults on the case.
-fn all_faults_hold<R: Print + Threads + Wait + Sync>(
-    rt: &R,
-    alloc: Global,
-    case: &Case<'_>,
-) -> io::Result<bool> {
+// Prints a line for each of these, and returns whether all hold.
+fn all_hold(rt: &impl Print, family: &str, tried: &[(&str, bool)]) -> io::Result<bool> {
     let mut all = true;
-    for (name, fault) in &FAULTS {
-        let well = faults::holds(rt, alloc, case, *fault);
-        all = row(rt, "faults", name, well)? && all;
+    for (name, holds) in tried {
+        all &= row(rt, family, name, *holds)?;
     }
     Ok(all)
 }
 
-// Checks how callers of buffers run side by side, and that files are apart.
-fn callers_hold<R: Print + Threads + Wait + Sync>(rt: &R, alloc: Global) -> io::Result<bool> {
-    let alone = callers::callers_meet(rt, alloc);
-    let shared = callers::buffers_are_shared(rt, alloc);
+// The first case of this text.
+fn first_of(text: &str) -> Case<'_> {
+    let (_, cases) = cut(text, ">>> ");
+    let (first, _) = cut(cases, ">>> ");
+    Case::of(first)
+}
+
+// Whether all else holds: the faults, tried on this case, the callers and the files.
+fn others_hold<R: Print + Threads + Wait + Sync>(
+    rt: &R,
+    alloc: Global,
+    case: &Case<'_>,
+) -> io::Result<bool> {
+    let mut all = all_hold(rt, "faults", &faults::tried(rt, alloc, case))?;
+    all &= all_hold(rt, "callers", &callers::tried(rt, alloc))?;
     let apart = locks::inodes_are_apart(rt, alloc);
-    let alone = row(rt, "callers", "two of them meet without a command", alone)?;
-    let shared = row(rt, "callers", "64 of them measure the same buffers", shared)?;
-    let apart = row(rt, "locks", "each file has its own", apart)?;
-    Ok(alone && shared && apart)
+    all &= row(rt, "locks", "each file has its own", apart)?;
+    Ok(all)
 }

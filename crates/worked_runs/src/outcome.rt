@@ -5,9 +5,12 @@ use std::alloc::{AllocError as OutOfMemory, Global};
 use std::sync::Wait;
 use std::thread::Threads;
 
-/// How the streams of a call behave. A call of a stream that fails has its number, from 0 on.
+/// A call: its words, which spaces separate, its input, and how its streams behave. A call of a
+/// stream that fails has its number, from 0 on.
 #[derive(Clone, Copy)]
-pub struct Streams {
+pub struct Call<'a> {
+    pub words: &'a str,
+    pub input: &'a [u8],
     /// The most bytes that a call of the source gives.
     pub given: usize,
     /// The call of the source that fails.
@@ -25,25 +28,88 @@ pub struct Streams {
 /// The number of no call.
 pub const NEVER: u64 = u64::MAX;
 
-/// Streams with room, of which no call fails.
-pub const SOUND: Streams = Streams {
-    given: 4096,
-    read: NEVER,
-    room: 2_000_000,
-    taken: 4096,
-    write: NEVER,
-    tell: NEVER,
-};
+impl<'a> Call<'a> {
+    /// A call over streams with room, of which no call fails.
+    pub fn sound(words: &'a str, input: &'a [u8]) -> Call<'a> {
+        Call {
+            words,
+            input,
+            given: 4096,
+            read: NEVER,
+            room: 2_000_000,
+            taken: 4096,
+            write: NEVER,
+            tell: NEVER,
+        }
+    }
+}
 
 /// What a command did: its exit status, its output and its note.
-#[derive(Drop)]
 pub struct Outcome {
     pub status: u8,
+    script: MemSource,
     out: MemSink,
     note: MemSink,
 }
 
+// Written out, so that the drop is proved once, and not wherever an outcome is dropped.
+impl Drop for Outcome {
+    fn drop(self) {
+        let Outcome {
+            status: _,
+            script: _,
+            out: _,
+            note: _,
+        } = self;
+    }
+}
+
+// A source of this input.
+fn source(alloc: Global, call: Call<'_>) -> Result<MemSource, OutOfMemory> {
+    let bytes = call.input.to_vec(alloc)?;
+    let fails = vec![in alloc; call.read]?;
+    Ok(MemSource::new(bytes, call.given.max(1), fails))
+}
+
+// A sink that has taken nothing.
+fn sink(alloc: Global, room: usize, piece: usize, fail: u64) -> Result<MemSink, OutOfMemory> {
+    MemSink::new(alloc, room, piece.max(1), vec![in alloc; fail]?)
+}
+
 impl Outcome {
+    // The outcome before anything was done.
+    fn before(alloc: Global, call: Call<'_>) -> Result<Outcome, OutOfMemory> {
+        let script = source(alloc, call)?;
+        let out = sink(alloc, call.room, call.taken, call.write)?;
+        let note = sink(alloc, 200, 200, call.tell)?;
+        Ok(Outcome {
+            status: 0,
+            script,
+            out,
+            note,
+        })
+    }
+
+    // Serves the words.
+    fn serve<G: Gate + Sync, R: Threads + Wait + Sync>(
+        &mut self,
+        rt: &R,
+        alloc: Global,
+        words: &[String],
+        gate: &G,
+    ) {
+        let script = &mut self.script;
+        self.status = serve(
+            rt,
+            alloc,
+            words,
+            script,
+            &mut self.out,
+            &mut self.note,
+            gate,
+        );
+    }
+
     /// The output.
     pub fn out(&self) -> &[u8] {
         self.out.taken()
@@ -55,32 +121,9 @@ impl Outcome {
     }
 
     /// Whether the outcome has this status, this output and this note.
-    pub fn is(&self, status: u8, out: &[u8], note: &str) -> bool {
-        self.status == status && self.out() == out && self.note() == note.as_bytes()
+    pub fn is(&self, wanted: (u8, &[u8], &str)) -> bool {
+        self.status == wanted.0 && self.out() == wanted.1 && self.note() == wanted.2.as_bytes()
     }
-}
-
-// A source of this input.
-fn source(alloc: Global, input: &[u8], streams: Streams) -> Result<MemSource, OutOfMemory> {
-    let bytes = input.to_vec(alloc)?;
-    let fails = vec![in alloc; streams.read]?;
-    Ok(MemSource::new(bytes, streams.given.max(1), fails))
-}
-
-// A sink that has taken nothing.
-fn sink(alloc: Global, room: usize, piece: usize, fail: u64) -> Result<MemSink, OutOfMemory> {
-    MemSink::new(alloc, room, piece.max(1), vec![in alloc; fail]?)
-}
-
-// The outcome before anything was done.
-fn nothing(alloc: Global, streams: Streams) -> Result<Outcome, OutOfMemory> {
-    let out = sink(alloc, streams.room, streams.taken, streams.write)?;
-    let note = sink(alloc, 200, 200, streams.tell)?;
-    Ok(Outcome {
-        status: 0,
-        out,
-        note,
-    })
 }
 
 // The words, which spaces separate.
@@ -92,46 +135,28 @@ fn words_of(alloc: Global, words: &str) -> Result<Vec<String>, OutOfMemory> {
     Ok(list)
 }
 
-// Serves the words.
-fn serve_words<G: Gate + Sync, R: Threads + Wait + Sync>(
-    rt: &R,
-    alloc: Global,
-    words: &[String],
-    script: &mut MemSource,
-    did: &mut Outcome,
-    gate: &G,
-) {
-    did.status = serve(rt, alloc, words, script, &mut did.out, &mut did.note, gate);
-}
-
-/// The outcome of the words on this input over such streams, if each step passes this gate first.
+/// The outcome of the call, if each step passes this gate first.
 pub fn answer_over<G: Gate + Sync, R: Threads + Wait + Sync>(
     rt: &R,
     alloc: Global,
-    words: &str,
-    input: &[u8],
-    streams: Streams,
+    call: Call<'_>,
     gate: &G,
 ) -> Result<Outcome, OutOfMemory> {
-    let words = words_of(alloc, words)?;
-    let mut script = source(alloc, input, streams)?;
-    let mut did = nothing(alloc, streams)?;
-    serve_words(rt, alloc, &words, &mut script, &mut did, gate);
+    let words = words_of(alloc, call.words)?;
+    let mut did = Outcome::before(alloc, call)?;
+    did.serve(rt, alloc, &words, gate);
     Ok(did)
 }
 
-/// Whether the words have this outcome on this input, over such streams. They have none if memory
-/// runs out.
+/// Whether the call has this outcome. It has none if memory runs out.
 pub fn answers<R: Threads + Wait + Sync>(
     rt: &R,
     alloc: Global,
-    words: &str,
-    input: &[u8],
-    streams: Streams,
+    call: Call<'_>,
     wanted: (u8, &[u8], &str),
 ) -> bool {
-    match answer_over(rt, alloc, words, input, streams, &FreeGate) {
-        Ok(did) => did.is(wanted.0, wanted.1, wanted.2),
+    match answer_over(rt, alloc, call, &FreeGate) {
+        Ok(did) => did.is(wanted),
         Err(_) => false,
     }
 }

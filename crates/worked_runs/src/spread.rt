@@ -25,9 +25,14 @@ fn push_marks(out: &mut String, marks: &str) -> Result<bool, OutOfMemory> {
 
 // Appends what stands after a `{{`. Answers whether it has its form.
 fn push_mark(out: &mut String, mark: &str) -> Result<bool, OutOfMemory> {
-    let Some((from, to, piece, rest)) = parts_of(mark) else {
+    let (inner, rest) = cut(mark, "}}");
+    let (numbers, piece) = cut(inner, " ");
+    let Some((from, to)) = numbers_of(numbers) else {
         return Ok(false);
     };
+    if inner.len() == mark.len() || numbers.len() == inner.len() {
+        return Ok(false);
+    }
     for number in from..to {
         push_numbered(out, piece, number)?;
     }
@@ -35,23 +40,15 @@ fn push_mark(out: &mut String, mark: &str) -> Result<bool, OutOfMemory> {
     Ok(true)
 }
 
-// The first number, the one after the last, the text, and what comes after the mark.
-fn parts_of(mark: &str) -> Option<(u32, u32, &str, &str)> {
-    let (inner, rest) = mark.split_once("}}")?;
-    let (numbers, piece) = inner.split_once(" ")?;
-    let (from, to) = cut(numbers, "..");
-    Some((from.parse().ok()?, to.parse().ok()?, piece, rest))
+// The first number, and the one after the last.
+fn numbers_of(text: &str) -> Option<(u32, u32)> {
+    let (from, to) = cut(text, "..");
+    Some((from.parse().ok()?, to.parse().ok()?))
 }
 
 // Appends the text, with the number in place of each `{}`.
 fn push_numbered(out: &mut String, piece: &str, number: u32) -> Result<(), OutOfMemory> {
-    let (front, parts) = cut(piece, "{}");
-    out.push_str(front)?;
-    if front.len() == piece.len() {
-        return Ok(());
-    }
-    for part in parts.split("{}") {
-        write!(out, "{number}{part}")?;
-    }
-    Ok(())
+    let alloc = *out.allocator();
+    let digits = format!(in alloc; "{number}")?;
+    out.push_str(piece.replace(alloc, "{}", digits.as_str())?.as_str())
 }
