@@ -10,9 +10,8 @@ mod faults;
 mod outcome;
 mod parts;
 
-use crate::outcome::{SOUND, answers};
+use crate::outcome::{Call, answers};
 use order_top::{DONE, REFUSED, TOO_MANY, USAGE};
-use std::alloc::Global;
 use std::io::{Error, ErrorKind};
 use std::{fs, io};
 
@@ -28,17 +27,29 @@ const SCRIPTS: [&str; 8] = [
     "labels_at_two_closes",
 ];
 
-// The first turns of the parts of which a script's orders consist.
+// The words that ask for the parts of which a script's orders consist.
 const PARTS: [(&str, &[&str]); 6] = [
-    ("reader_and_writer", &["0", "1"]),
-    ("reader_and_writer", &["0.0", "0.1", "1.0", "1.1"]),
+    ("reader_and_writer", &["100000 0", "100000 1"]),
     (
         "reader_and_writer",
-        &["0", "1.0", "1.1.0.0", "1.1.0.1", "1.1.1"],
+        &["100000 0.0", "100000 0.1", "100000 1.0", "100000 1.1"],
     ),
-    ("two_files", &["0", "1", "2"]),
-    ("rule_beside_a_check", &["0", "1"]),
-    ("labels_at_two_closes", &["0.0", "0.1", "1.0", "1.1"]),
+    (
+        "reader_and_writer",
+        &[
+            "100000 0",
+            "100000 1.0",
+            "100000 1.1.0.0",
+            "100000 1.1.0.1",
+            "100000 1.1.1",
+        ],
+    ),
+    ("two_files", &["100000 0", "100000 1", "100000 2"]),
+    ("rule_beside_a_check", &["100000 0", "100000 1"]),
+    (
+        "labels_at_two_closes",
+        &["100000 0.0", "100000 0.1", "100000 1.0", "100000 1.1"],
+    ),
 ];
 
 // What is told of words that are none of the forms.
@@ -89,11 +100,11 @@ const WORDS: [(&str, &str, u8, &str, &str); 31] = [
 ];
 
 fn main(rt: HostRuntime) -> io::Result<()> {
-    let rows = rows_hold(&rt)?;
-    let words = all_words_hold(&rt)?;
-    let parts = all_parts_hold(&rt)?;
-    let faults = faults_hold(&rt)?;
-    if rows && words && parts && faults {
+    let mut all = rows_hold(&rt)?;
+    all &= all_words_hold(&rt)?;
+    all &= all_parts_hold(&rt)?;
+    all &= faults_hold(&rt)?;
+    if all {
         Ok(())
     } else {
         Err(Error::from(ErrorKind::Other))
@@ -104,97 +115,89 @@ fn main(rt: HostRuntime) -> io::Result<()> {
 fn rows_hold(rt: &HostRuntime) -> io::Result<bool> {
     let mut all = true;
     for name in &SCRIPTS {
-        all = script_holds(rt, name)? && all;
+        all &= script_holds(rt, name)?;
     }
     Ok(all)
 }
 
 // Whether the script of this name has its stored answer.
 fn script_holds(rt: &HostRuntime, name: &str) -> io::Result<bool> {
-    let script = text_of(rt, name, "script")?;
-    let rows = text_of(rt, name, "orders")?;
-    let well = answers(rt.alloc(), "", &script, SOUND, (DONE, &rows, ""));
+    let (script, rows) = texts_of(rt, name)?;
+    let wanted = (DONE, rows.as_bytes(), "");
+    let well = answers(rt.alloc(), Call::sound("", script.as_bytes()), wanted);
     row(rt, "rows", name, well)
 }
 
 // Whether all words have their outcomes.
 fn all_words_hold(rt: &HostRuntime) -> io::Result<bool> {
     let mut all = true;
-    for (words, name, status, out, note) in &WORDS {
-        all = words_hold(rt, words, name, *status, out, note)? && all;
+    for case in &WORDS {
+        all &= words_hold(rt, case)?;
     }
     Ok(all)
 }
 
 // Whether the words have this outcome on the script.
-fn words_hold(
-    rt: &HostRuntime,
-    words: &str,
-    name: &str,
-    status: u8,
-    out: &str,
-    note: &str,
-) -> io::Result<bool> {
+fn words_hold(rt: &HostRuntime, case: &(&str, &str, u8, &str, &str)) -> io::Result<bool> {
+    let (words, name, status, out, note) = *case;
     let script = text_of(rt, name, "script")?;
     let out = output(rt, out)?;
-    let well = answers(rt.alloc(), words, &script, SOUND, (status, &out, note));
+    let wanted = (status, out.as_bytes(), note);
+    let well = answers(rt.alloc(), Call::sound(words, script.as_bytes()), wanted);
     row(rt, name, words, well)
 }
 
 // The output that is meant: one that is a script's name is its stored answer.
-fn output(rt: &HostRuntime, out: &str) -> io::Result<Vec<u8>> {
+fn output(rt: &HostRuntime, out: &str) -> io::Result<String> {
     if SCRIPTS.contains(&out) {
         return text_of(rt, out, "orders");
     }
-    Ok(out.as_bytes().to_vec(rt.alloc())?)
+    Ok(String::from_str(rt.alloc(), out)?)
 }
 
 // Whether the answers for parts add up.
 fn all_parts_hold(rt: &HostRuntime) -> io::Result<bool> {
     let mut all = true;
-    for (name, firsts) in &PARTS {
-        all = parts_hold(rt, name, firsts)? && all;
+    for (name, parts) in &PARTS {
+        all &= parts_hold(rt, name, parts)?;
     }
     Ok(all)
 }
 
 // Whether the answers for these parts add up.
-fn parts_hold(rt: &HostRuntime, name: &str, firsts: &[&str]) -> io::Result<bool> {
-    let script = text_of(rt, name, "script")?;
-    let whole = text_of(rt, name, "orders")?;
-    let well = parts::add_up(rt.alloc(), &script, &whole, firsts)?;
+fn parts_hold(rt: &HostRuntime, name: &str, parts: &[&str]) -> io::Result<bool> {
+    let (script, whole) = texts_of(rt, name)?;
+    let well = parts::add_up(rt.alloc(), script.as_bytes(), whole.as_str(), parts)?;
     row(rt, name, "parts add up", well)
 }
 
+// The script of this name and its stored answer.
+fn texts_of(rt: &HostRuntime, name: &str) -> io::Result<(String, String)> {
+    let script = text_of(rt, name, "script")?;
+    let orders = text_of(rt, name, "orders")?;
+    Ok((script, orders))
+}
+
 // The text of the file of this name and ending.
-fn text_of(rt: &HostRuntime, name: &str, ending: &str) -> io::Result<Vec<u8>> {
+fn text_of(rt: &HostRuntime, name: &str, ending: &str) -> io::Result<String> {
     let file = format!(in rt.alloc(); "{name}.{ending}")?;
-    fs::read(rt, file.as_str())
+    fs::read_to_string(rt, file.as_str())
 }
 
 // Tries streams that fail, the longest input, and the longest word.
 fn faults_hold(rt: &HostRuntime) -> io::Result<bool> {
-    let script = text_of(rt, "opens", "script")?;
-    let whole = text_of(rt, "opens", "orders")?;
-    all_faults_hold(rt, rt.alloc(), &script, &whole)
+    let (script, whole) = texts_of(rt, "opens")?;
+    let tried = faults::tried(rt.alloc(), script.as_bytes(), whole.as_bytes());
+    all_hold(rt, &tried)
 }
 
-// Tries them on this script with this answer.
-fn all_faults_hold(
-    rt: &HostRuntime,
-    alloc: Global,
-    script: &[u8],
-    whole: &[u8],
-) -> io::Result<bool> {
-    let reads = faults::reads_fail(alloc, script, whole);
-    let reads = row(rt, "faults", "reading fails", reads)?;
-    let writes = faults::writes_fail(alloc, script, whole);
-    let writes = row(rt, "faults", "writing fails", writes)?;
-    let limits = faults::limits_hold(alloc, script, whole);
-    let limits = row(rt, "faults", "the longest input", limits)?;
-    let turns = faults::turns_hold(alloc, script);
-    let turns = row(rt, "faults", "the most first turns", turns)?;
-    Ok(reads && writes && limits && turns)
+// Prints a line for each of these, and returns whether all hold.
+fn all_hold(rt: &HostRuntime, tried: &[(&str, bool)]) -> io::Result<bool> {
+    let mut all = true;
+    for (name, holds) in tried {
+        all &= row(rt, "faults", name, *holds)?;
+    }
+    Ok(all)
 }
 
 // Prints a line, and returns whether the case holds.

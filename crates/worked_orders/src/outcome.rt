@@ -3,9 +3,12 @@ use ima_io::{FreeGate, MemSink, MemSource};
 use order_top::serve;
 use std::alloc::{AllocError as OutOfMemory, Global};
 
-/// How the streams of a call behave. A call of a stream that fails has its number, from 0 on.
+/// A call: its words, which spaces separate, its input, and how its streams behave. A call of a
+/// stream that fails has its number, from 0 on.
 #[derive(Clone, Copy)]
-pub struct Streams {
+pub struct Call<'a> {
+    pub words: &'a str,
+    pub input: &'a [u8],
     /// The most bytes that a call of the source gives.
     pub given: usize,
     /// The call of the source that fails.
@@ -21,40 +24,46 @@ pub struct Streams {
 // The number of no call.
 const NEVER: u64 = u64::MAX;
 
-/// Streams with room, of which no call fails.
-pub const SOUND: Streams = Streams {
-    given: 4096,
-    read: NEVER,
-    room: 2_000_000,
-    taken: 4096,
-    write: NEVER,
-};
+impl<'a> Call<'a> {
+    /// A call over streams with room, of which no call fails.
+    pub fn sound(words: &'a str, input: &'a [u8]) -> Call<'a> {
+        Call {
+            words,
+            input,
+            given: 4096,
+            read: NEVER,
+            room: 2_000_000,
+            taken: 4096,
+            write: NEVER,
+        }
+    }
+}
 
 /// What a call did: its exit status, its output and its note.
-#[derive(Drop)]
 pub struct Outcome {
     pub status: u8,
+    script: MemSource,
     out: MemSink,
     note: MemSink,
 }
 
-impl Outcome {
-    /// The output.
-    pub fn out(&self) -> &[u8] {
-        self.out.taken()
-    }
-
-    /// Whether the outcome has this status, this output and this note.
-    pub fn is(&self, status: u8, out: &[u8], note: &str) -> bool {
-        self.status == status && self.out() == out && self.note.taken() == note.as_bytes()
+// Written out, so that the drop is proved once, and not wherever an outcome is dropped.
+impl Drop for Outcome {
+    fn drop(self) {
+        let Outcome {
+            status: _,
+            script: _,
+            out: _,
+            note: _,
+        } = self;
     }
 }
 
-// A source of this input.
-fn source(alloc: Global, input: &[u8], streams: Streams) -> Result<MemSource, OutOfMemory> {
-    let bytes = input.to_vec(alloc)?;
-    let fails = vec![in alloc; streams.read]?;
-    Ok(MemSource::new(bytes, streams.given.max(1), fails))
+// The source of the call.
+fn source(alloc: Global, call: Call<'_>) -> Result<MemSource, OutOfMemory> {
+    let bytes = call.input.to_vec(alloc)?;
+    let fails = vec![in alloc; call.read]?;
+    Ok(MemSource::new(bytes, call.given.max(1), fails))
 }
 
 // A sink that has taken nothing.
@@ -62,15 +71,37 @@ fn sink(alloc: Global, room: usize, piece: usize, fail: u64) -> Result<MemSink, 
     MemSink::new(alloc, room, piece.max(1), vec![in alloc; fail]?)
 }
 
-// The outcome before anything was done.
-fn nothing(alloc: Global, streams: Streams) -> Result<Outcome, OutOfMemory> {
-    let out = sink(alloc, streams.room, streams.taken, streams.write)?;
-    let note = sink(alloc, 200, 200, NEVER)?;
-    Ok(Outcome {
-        status: 0,
-        out,
-        note,
-    })
+impl Outcome {
+    // The outcome before anything was done.
+    fn before(alloc: Global, call: Call<'_>) -> Result<Outcome, OutOfMemory> {
+        let script = source(alloc, call)?;
+        let out = sink(alloc, call.room, call.taken, call.write)?;
+        let note = sink(alloc, 200, 200, NEVER)?;
+        Ok(Outcome {
+            status: 0,
+            script,
+            out,
+            note,
+        })
+    }
+
+    // Serves the words.
+    fn serve(&mut self, alloc: Global, words: &[String]) {
+        let script = &mut self.script;
+        let (out, note) = (&mut self.out, &mut self.note);
+        self.status = serve(alloc, words, script, out, note, &FreeGate);
+    }
+
+    /// The output.
+    pub fn out(&self) -> &[u8] {
+        self.out.taken()
+    }
+
+    /// Whether the outcome has this status, this output and this note.
+    pub fn is(&self, wanted: (u8, &[u8], &str)) -> bool {
+        let note = self.note.taken();
+        self.status == wanted.0 && self.out() == wanted.1 && note == wanted.2.as_bytes()
+    }
 }
 
 // The words, which spaces separate.
@@ -82,38 +113,18 @@ fn words_of(alloc: Global, words: &str) -> Result<Vec<String>, OutOfMemory> {
     Ok(list)
 }
 
-/// The outcome of the words on this input over such streams.
-pub fn answer_over(
-    alloc: Global,
-    words: &str,
-    input: &[u8],
-    streams: Streams,
-) -> Result<Outcome, OutOfMemory> {
-    let words = words_of(alloc, words)?;
-    let mut script = source(alloc, input, streams)?;
-    let mut did = nothing(alloc, streams)?;
-    did.status = serve(
-        alloc,
-        &words,
-        &mut script,
-        &mut did.out,
-        &mut did.note,
-        &FreeGate,
-    );
+/// The outcome of the call.
+pub fn answer_over(alloc: Global, call: Call<'_>) -> Result<Outcome, OutOfMemory> {
+    let words = words_of(alloc, call.words)?;
+    let mut did = Outcome::before(alloc, call)?;
+    did.serve(alloc, &words);
     Ok(did)
 }
 
-/// Whether the words have this outcome on this input, over such streams. They have none if memory
-/// runs out.
-pub fn answers(
-    alloc: Global,
-    words: &str,
-    input: &[u8],
-    streams: Streams,
-    wanted: (u8, &[u8], &str),
-) -> bool {
-    match answer_over(alloc, words, input, streams) {
-        Ok(did) => did.is(wanted.0, wanted.1, wanted.2),
+/// Whether the call has this outcome. It has none if memory runs out.
+pub fn answers(alloc: Global, call: Call<'_>, wanted: (u8, &[u8], &str)) -> bool {
+    match answer_over(alloc, call) {
+        Ok(did) => did.is(wanted),
         Err(_) => false,
     }
 }

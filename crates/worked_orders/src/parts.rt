@@ -1,12 +1,12 @@
 // Answers for parts of a script's orders, which are added.
 
-use crate::outcome::{SOUND, answer_over};
+use crate::outcome::{Call, answer_over};
 use order_top::DONE;
 use std::alloc::{AllocError as OutOfMemory, Global};
 use std::str;
 
 // A row of an answer.
-#[derive(Clone, Copy, Drop)]
+#[derive(Clone, Copy)]
 struct Row<'a> {
     count: u128,
     // The line `schedule`. The tasks' numbers have one digit, so the first of two lines is the one
@@ -34,13 +34,6 @@ impl<'a> Row<'a> {
         })
     }
 
-    // Whether the other row is the same.
-    fn is(&self, other: &Row<'_>) -> bool {
-        self.count == other.count
-            && self.first.as_bytes() == other.first.as_bytes()
-            && self.outcome.as_bytes() == other.outcome.as_bytes()
-    }
-
     // The two rows of one outcome, added.
     fn and(self, other: Row<'a>) -> Row<'a> {
         Row {
@@ -55,106 +48,87 @@ impl<'a> Row<'a> {
     }
 }
 
-// Adds the row to the one of its outcome, if there is one.
-fn add<'a>(rows: &mut Vec<Row<'a>>, row: Row<'a>) -> Result<(), OutOfMemory> {
-    for other in rows.iter_mut() {
-        if other.outcome == row.outcome {
-            *other = other.and(row);
-            return Ok(());
+// The rows of this outcome, added: none if there is none, or if some row has no form.
+fn sum_of<'a>(answers: &'a str, outcome: &str) -> Option<Row<'a>> {
+    let mut sum = None;
+    let (_, rows) = cut(answers, "\noutcome ");
+    for text in rows.split("\noutcome ") {
+        let row = Row::of(text)?;
+        if row.outcome == outcome {
+            sum = match sum {
+                Some(others) => Some(row.and(others)),
+                None => Some(row),
+            };
         }
     }
-    rows.push(row)?;
-    Ok(())
+    sum
 }
 
-// Adds the rows of some answers. Returns whether they have their form.
-fn add_all<'a>(rows: &mut Vec<Row<'a>>, answers: &'a str) -> Result<bool, OutOfMemory> {
-    let (_, texts) = cut(answers, "\noutcome ");
-    for text in texts.split("\noutcome ") {
+// Whether the rows of this outcome are the same in both, added.
+fn is_same_sum(some: &str, others: &str, outcome: &str) -> bool {
+    match (sum_of(some, outcome), sum_of(others, outcome)) {
+        (Some(a), Some(b)) => a.count == b.count && a.first == b.first,
+        _ => false,
+    }
+}
+
+// Whether both have the same rows of each outcome that the first answers have, added.
+fn are_same_sums(some: &str, others: &str) -> bool {
+    let (_, rows) = cut(some, "\noutcome ");
+    for text in rows.split("\noutcome ") {
         let Some(row) = Row::of(text) else {
-            return Ok(false);
+            return false;
         };
-        add(rows, row)?;
-    }
-    Ok(true)
-}
-
-// Whether the row is one of the rows.
-fn is_among(row: &Row<'_>, rows: &[Row<'_>]) -> bool {
-    for other in rows {
-        if row.is(other) {
-            return true;
-        }
-    }
-    false
-}
-
-// Whether both have the same rows.
-fn are_same(a: &[Row<'_>], b: &[Row<'_>]) -> bool {
-    for row in a {
-        if !is_among(row, b) {
+        if !is_same_sum(some, others, row.outcome) {
             return false;
         }
     }
-    a.len() == b.len()
-}
-
-// Whether the rows of both answers, added, are the same.
-fn have_same_rows(alloc: Global, some: &[u8], others: &[u8]) -> Result<bool, OutOfMemory> {
-    let Ok(some) = str::from_utf8(some) else {
-        return Ok(false);
-    };
-    let Ok(others) = str::from_utf8(others) else {
-        return Ok(false);
-    };
-    let mut a = Vec::new(alloc);
-    let mut b = Vec::new(alloc);
-    Ok(add_all(&mut a, some)? && add_all(&mut b, others)? && are_same(&a, &b))
+    true
 }
 
 // Whether the answer has one end, with nothing after it.
-fn is_whole(answer: &[u8]) -> bool {
-    let text = str::from_utf8(answer).unwrap_or("");
-    let (front, rest) = cut(text, "\nend\n");
-    front.len() < text.len() && rest.is_empty()
+fn is_whole(answer: &str) -> bool {
+    let (front, rest) = cut(answer, "\nend\n");
+    front.len() < answer.len() && rest.is_empty()
 }
 
-// Appends the answer for the orders that begin with these turns. Returns whether there is one.
+// Appends the answer to these words. Returns whether there is one.
 fn push_part(
     alloc: Global,
     script: &[u8],
-    first: &str,
-    answers: &mut Vec<u8>,
+    words: &str,
+    answers: &mut String,
 ) -> Result<bool, OutOfMemory> {
-    let words = format!(in alloc; "100000 {first}")?;
-    let got = answer_over(alloc, words.as_str(), script, SOUND)?;
-    answers.extend_from_slice(got.out())?;
-    Ok(got.status == DONE && is_whole(got.out()))
+    let got = answer_over(alloc, Call::sound(words, script))?;
+    let answer = str::from_utf8(got.out()).unwrap_or("");
+    answers.push_str(answer)?;
+    Ok(got.status == DONE && is_whole(answer))
 }
 
-// Appends the answers for the orders that begin with each of these turns.
+// Appends the answers to all these words.
 fn push_parts(
     alloc: Global,
     script: &[u8],
     parts: &[&str],
-    answers: &mut Vec<u8>,
+    answers: &mut String,
 ) -> Result<bool, OutOfMemory> {
-    for first in parts {
-        if !push_part(alloc, script, first, answers)? {
+    for words in parts {
+        if !push_part(alloc, script, words, answers)? {
             return Ok(false);
         }
     }
     Ok(true)
 }
 
-/// Whether the answers for the orders that begin with each of these turns add up to the whole
-/// answer.
+/// Whether the answers to all these words add up to the whole answer.
 pub fn add_up(
     alloc: Global,
     script: &[u8],
-    whole: &[u8],
+    whole: &str,
     parts: &[&str],
 ) -> Result<bool, OutOfMemory> {
-    let mut answers = Vec::new(alloc);
-    Ok(push_parts(alloc, script, parts, &mut answers)? && have_same_rows(alloc, &answers, whole)?)
+    let mut answers = String::new(alloc);
+    let well = push_parts(alloc, script, parts, &mut answers)?;
+    let sum = answers.as_str();
+    Ok(well && are_same_sums(sum, whole) && are_same_sums(whole, sum))
 }
