@@ -15,8 +15,24 @@ pub fn are_refused(alloc: Global, report: &[u8]) -> Result<bool, OutOfMemory> {
     Ok(true)
 }
 
+// How many lines end in these bytes.
+fn ends_of(bytes: &[u8]) -> u64 {
+    let mut count = 0u64;
+    for byte in bytes {
+        if *byte == b'\n' {
+            count = count.saturating_add(1);
+        }
+    }
+    count
+}
+
+// The note that refuses what is left: its last line isn't whole, or is missing.
+fn note_of(alloc: Global, cut: &[u8]) -> Result<String, OutOfMemory> {
+    let line = ends_of(cut).saturating_add(1);
+    format!(in alloc; "line {line}: bad-line\n")
+}
+
 fn is_refused(alloc: Global, cut: &[u8]) -> Result<bool, OutOfMemory> {
-    let line = cut.iter().filter(|b| **b == b'\n').count();
-    let note = format!(in alloc; "line {}: bad-line\n", line as u64 + 1)?;
+    let note = note_of(alloc, cut)?;
     Ok(answer(alloc, "page", cut)?.is(REFUSED, b"", note.as_str()))
 }

@@ -82,19 +82,19 @@ const REFUSALS: [(&str, u8, &str); 20] = [
 ];
 
 fn main(rt: HostRuntime) -> Result<()> {
-    let pages = pages_hold(&rt)?;
-    let cut = cut_reports_are_refused(&rt)?;
-    let others = others_hold(&rt)?;
-    let refusals = refusals_hold(&rt)?;
-    ensure!(pages && cut && others && refusals, "not as it should be");
+    let mut all = pages_hold(&rt)?;
+    all &= cut_reports_are_refused(&rt)?;
+    all &= others_hold(&rt)?;
+    all &= refusals_hold(&rt)?;
+    ensure!(all, "not as it should be");
     Ok(())
 }
 
 // The page of each report.
 fn pages_hold(rt: &HostRuntime) -> Result<bool> {
     let mut all = true;
-    for name in REPORTS {
-        all = page_of_report_holds(rt, name)? && all;
+    for name in &REPORTS {
+        all &= page_of_report_holds(rt, name)?;
     }
     Ok(all)
 }
@@ -107,8 +107,8 @@ fn page_of_report_holds(rt: &HostRuntime, name: &str) -> Result<bool> {
 
 fn cut_reports_are_refused(rt: &HostRuntime) -> Result<bool> {
     let mut all = true;
-    for name in REPORTS {
-        all = cut_report_is_refused(rt, name)? && all;
+    for name in &REPORTS {
+        all &= cut_report_is_refused(rt, name)?;
     }
     Ok(all)
 }
@@ -121,27 +121,31 @@ fn cut_report_is_refused(rt: &HostRuntime, name: &str) -> Result<bool> {
 
 fn others_hold(rt: &HostRuntime) -> Result<bool> {
     let mut all = true;
-    for other in OTHERS {
-        all = other_holds(rt, other)? && all;
+    for other in &OTHERS {
+        all &= other_holds(rt, other)?;
     }
     Ok(all)
 }
 
-fn other_holds(rt: &HostRuntime, other: (&str, &[&str], &str)) -> Result<bool> {
+fn other_holds(rt: &HostRuntime, other: &(&str, &[&str], &str)) -> Result<bool> {
     let text = reports(rt, other.1)?;
     page_holds(rt, other.0, &text, other.2)
 }
 
 fn refusals_hold(rt: &HostRuntime) -> Result<bool> {
-    let mut all = true;
     let text = report(rt, "race")?;
-    for refusal in REFUSALS {
-        all = refusal_holds(rt, &text, refusal)? && all;
+    all_refusals_hold(rt, &text)
+}
+
+fn all_refusals_hold(rt: &HostRuntime, text: &[u8]) -> Result<bool> {
+    let mut all = true;
+    for refusal in &REFUSALS {
+        all &= refusal_holds(rt, text, refusal)?;
     }
     Ok(all)
 }
 
-fn refusal_holds(rt: &HostRuntime, text: &[u8], refusal: (&str, u8, &str)) -> Result<bool> {
+fn refusal_holds(rt: &HostRuntime, text: &[u8], refusal: &(&str, u8, &str)) -> Result<bool> {
     let got = answer(rt.alloc(), refusal.0, text)?;
     row(rt, "refused", refusal.0, got.is(refusal.1, b"", refusal.2))
 }
@@ -158,13 +162,17 @@ fn reports(rt: &HostRuntime, names: &[&str]) -> Result<Vec<u8>> {
 // The text of the report of this name.
 fn report(rt: &HostRuntime, name: &str) -> Result<Vec<u8>> {
     let file = format!(in rt.alloc(); "{name}.report")?;
-    let text = fs::read(rt, file.as_str()).context(file.as_str())?;
-    Ok(text)
+    bytes_of(rt, file.as_str())
+}
+
+// The bytes of the file of this name.
+fn bytes_of(rt: &HostRuntime, file: &str) -> Result<Vec<u8>> {
+    fs::read(rt, file).context(file)
 }
 
 // Compares the page with the stored one, and prints a line.
 fn page_holds(rt: &HostRuntime, words: &str, text: &[u8], page: &str) -> Result<bool> {
-    let stored = fs::read(rt, page).context(page)?;
+    let stored = bytes_of(rt, page)?;
     let got = answer(rt.alloc(), words, text)?;
     row(rt, words, page, got.is(0, &stored, ""))
 }
