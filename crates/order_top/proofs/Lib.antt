@@ -4,3 +4,5 @@ pub mod Wording
 pub mod Asking
 pub mod Passing
 pub mod Serving
+pub mod Reasons
+pub mod Performing

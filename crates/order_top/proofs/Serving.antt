@@ -47,7 +47,7 @@ module _ (asked : AskedValue) (input : List ℕ) (old new : Option (List ℕ)) w
   stopped why.TooLong p h = absurd (omega (arith, h))
   stopped why.OutOfMemory p h = absurd (omega (arith, h))
 
-not_written : (w : NotDone) → not_done_status w ≡ exit.done → ⊥
+pub not_written : (w : NotDone) → not_done_status w ≡ exit.done → ⊥
 not_written why.Usage h = omega (arith, h)
 not_written (why.Refused line) h = omega (arith, h)
 not_written (why.TooMany line) h = omega (arith, h)

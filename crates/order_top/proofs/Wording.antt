@@ -1,5 +1,5 @@
 -- Turns that a word names.
-use Rattle.std.proofs.Common.{◌≡◌, ◌==◌, ◌≤◌, ◌+◌, ℕ, suc, Bool, true, false, not, nat_lt, List, [], ◌∷◌, ◌++◌, count_by, length, Option, Some, None, Result, Ok, Err, is_some, option_and_then, option_map, if◌then◌else◌, refl, ap, sym, subst, ◌∙◌, append_assoc, arith, eqb-true, ltb-false, ltb-true}
+use Rattle.std.proofs.Common.{◌≡◌, ◌==◌, ◌≤◌, ℕ, suc, Bool, true, false, not, nat_lt, List, [], ◌∷◌, ◌++◌, count_by, length, Option, Some, None, Result, Ok, Err, is_some, option_and_then, option_map, if◌then◌else◌, refl, ap, sym, subst, ◌∙◌, append_assoc, arith, eqb-true, ltb-false, ltb-true}
 use Rattle.std.specs.Prelude.{IsErrAnd, IsSome}
 use Rattle.std.proofs.lemmas.Bool.{true≢false}
 use Rattle.std.proofs.lemmas.List.Splits.{length-slice_split}

@@ -27,17 +27,24 @@ fn push_turns(out: &mut Vec<u8>, turns: &[u32]) -> Result<(), OutOfMemory>
     Ok(())
 }
 
+// Prints a schedule: the first turns, and those that follow.
+fn push_schedule(out: &mut Vec<u8>, first: &[u32], rest: &[u32]) -> Result<(), OutOfMemory>
+    ensures { OnOk result (out.new.items ≡ out.old.items ++ codes "\nschedule"
+        ++ turns_text first.now ++ turns_text rest.now ++ codes "\n") }
+{
+    out.extend_from_slice(b"\nschedule")?;
+    push_turns(out, first)?;
+    push_turns(out, rest)?;
+    out.extend_from_slice(b"\n")
+}
+
 fn push_row(alloc: Global, out: &mut Vec<u8>, first: &[u32], row: &Row) -> Result<(), OutOfMemory>
     ensures { OnOk result (out.new.items ≡ out.old.items ++ row_text first.now row.now) }
 {
     out.extend_from_slice(b"outcome ")?;
     push_count(alloc, out, row.counted.count)?;
-    out.extend_from_slice(b"\nschedule")?;
-    push_turns(out, first)?;
-    push_turns(out, row.counted.order.as_slice())?;
-    out.extend_from_slice(b"\n")?;
-    out.extend_from_slice(row.outcome.as_slice())?;
-    Ok(())
+    push_schedule(out, first, row.counted.order.as_slice())?;
+    out.extend_from_slice(row.outcome.as_slice())
 }
 
 fn push_rows(
