@@ -34,5 +34,5 @@ pub returns-in_err-absorb_data-in_default-clause-kept :
     goal.returns-in_err-absorb_data-in_default-clause-kept
 returns-in_err-absorb_data-in_default-clause-kept c =
     kept_before c.args.out.now.items c.append_number.new.out.items _ _
-    (vec_len c.args.out.now) (vec_len c.append_number.new.out) (omega arith) c.in_ok-append_number-in_default.ensures.ok
-    c.in_err-absorb_data-in_default.ensures.kept
+    (vec_len c.args.out.now) (vec_len c.append_number.new.out) (omega arith)
+    c.in_ok-append_number-in_default.ensures.ok c.in_err-absorb_data-in_default.ensures.kept

@@ -5,7 +5,9 @@ use Rattle.view_layout.proofs.NoItems.{no_column}
 use Rattle.view_layout.proofs.scenery.push_differing.Goals as goal
 
 pub loop-column-init : goal.loop-column-init
-loop-column-init c = none_yet c.args.items.now.items (differing_items c.args.differs.now c.args.bottom) c.args.columns.now
+loop-column-init c =
+    none_yet c.args.items.now.items (differing_items c.args.differs.now c.args.bottom)
+    c.args.columns.now
 
 pub loop-column-preserved : goal.loop-column-preserved
 loop-column-preserved c =
