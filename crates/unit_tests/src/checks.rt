@@ -22,6 +22,6 @@ pub fn is_hex(
     case: &str,
 ) -> Result<(), OutOfMemory> {
     let text = hex::encode(alloc, got)?;
-    assert!(rt; text.as_bytes() == digits.as_bytes(), "{case}: {text}");
+    is_same(rt, text.as_bytes(), digits.as_bytes(), case);
     Ok(())
 }

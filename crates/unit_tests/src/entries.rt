@@ -32,8 +32,8 @@ pub fn entry(
 ) -> Result<Entry, OutOfMemory> {
     let file = digest(Algo::Sha256, content, ABC_SHA256);
     let sha1 = digest(Algo::Sha1, content, ABC_SHA1);
-    assert!(rt; pcr < 24 && sha1.algo() == Algo::Sha1 && sig.len() <= 4096);
-    assert!(rt; can_show(template, path));
+    let fits = pcr < 24 && sha1.algo() == Algo::Sha1 && sig.len() <= 4096;
+    assert!(rt; fits && can_show(template, path));
     build(alloc, pcr, template, &file, &sha1, path, sig)
 }
 
@@ -43,7 +43,6 @@ pub fn violation_of_a(
     alloc: Global,
     template: Template,
 ) -> Result<Entry, OutOfMemory> {
-    assert!(rt; template != Template::ImaBuf);
-    assert!(rt; can_show(template, b"/a"));
+    assert!(rt; template != Template::ImaBuf && can_show(template, b"/a"));
     violation(alloc, template, Algo::Sha256, b"/a")
 }

@@ -1,12 +1,17 @@
-//! Tests of the parts: vectors of digests, HMACs and registers, and streams; what no case of
-//! `worked_runs` holds or shows of records, labels, comments and deciding rules; and that what a
-//! caller pushed on a shared list stays there.
+//! Tests of what no case of `worked_runs` holds or shows: vectors of digests, HMACs and registers;
+//! streams; records, labels, comments and deciding rules; the texts of scripts that are made and
+//! printed, and a command line with an empty word; and that what a caller pushed on a shared list
+//! stays there.
 //!
-//! The tests are in a crate of their own because a crate with tests is proved twice.
+//! The tests are in a crate of their own because a crate with tests is proved twice. Their tables
+//! are statics: a constant that holds references is built anew wherever it is borrowed, and each
+//! part of it is a step of the proof.
 #![tactic(auto)]
 
 #[cfg(test)]
 mod checks;
+#[cfg(test)]
+mod command_words;
 #[cfg(test)]
 mod digests;
 #[cfg(test)]
@@ -27,5 +32,9 @@ mod matching;
 mod policies;
 #[cfg(test)]
 mod registers;
+#[cfg(test)]
+mod script_generating;
+#[cfg(test)]
+mod script_printing;
 #[cfg(test)]
 mod streams;

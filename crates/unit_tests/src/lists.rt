@@ -40,16 +40,21 @@ const OTHER_RECORDS: &str =
 const BUF_LINE: &str = "10 f4084bc3aa1f6231b7de540b9c47cf2d653350c9 ima-buf \
     sha256:ba7816bf8f01cfea414140de5dae2223b00361a396177a9cb410ff61f20015ad kernel 616263\n";
 
-// What the registers hold after the other list, in the banks of SHA-1 and SHA-256.
-const OTHER_PCR_10: (&str, &str) = (
-    "e06a45f1e9384347ee3dc7af82c08bd639d95c25",
-    "68278c4d6d2dd13a7b7b313299dd91fdc407a2f31ac27932cde53d8496a14c20",
-);
-
-const OTHER_PCR_9: (&str, &str) = (
-    "1f5f11ad0cde5f68ecedd801f55b751697ba7bc0",
-    "519c38d309353c7f1f24ac8095eaf9cd713e0b0504d7e3743c90eb984ff4439a",
-);
+// What the registers hold after the other list, in both banks.
+static OTHER_REGISTERS: [(Bank, u8, &str); 4] = [
+    (Bank::Sha1, 10, "e06a45f1e9384347ee3dc7af82c08bd639d95c25"),
+    (
+        Bank::Sha256,
+        10,
+        "68278c4d6d2dd13a7b7b313299dd91fdc407a2f31ac27932cde53d8496a14c20",
+    ),
+    (Bank::Sha1, 9, "1f5f11ad0cde5f68ecedd801f55b751697ba7bc0"),
+    (
+        Bank::Sha256,
+        9,
+        "519c38d309353c7f1f24ac8095eaf9cd713e0b0504d7e3743c90eb984ff4439a",
+    ),
+];
 
 // An entry of a list: its register, template, content, path and label; or a violation of `/a`.
 enum Line {
@@ -59,7 +64,7 @@ enum Line {
 
 use Line::{File, Violation};
 
-const IMA_LIST: [Line; 3] = [
+static IMA_LIST: [Line; 3] = [
     File(10, Template::Ima, b"", b"boot_aggregate", b""),
     File(10, Template::Ima, b"abc", b"/a", b"\x03\x02"),
     Violation(Template::Ima),
@@ -68,7 +73,7 @@ const IMA_LIST: [Line; 3] = [
 const LABEL: &[u8] = b"\x03\x02\x04\xaa\xbb\xcc\xdd";
 
 // The line of the one of these that is a buffer is `BUF_LINE`.
-const OTHER_LIST: [Line; 7] = [
+static OTHER_LIST: [Line; 7] = [
     File(10, Template::ImaNg, b"", b"boot_aggregate", b""),
     File(10, Template::ImaNg, b"abc", b"/a", LABEL),
     File(10, Template::ImaSig, b"abc", b"/a", LABEL),
@@ -135,38 +140,32 @@ fn banks_of(list: &[Entry]) -> Banks {
     banks
 }
 
-// What the register holds in both banks.
+// What the register holds in the bank.
 fn register_is(
     rt: &impl Abort,
     alloc: Global,
     banks: &Banks,
-    pcr: u8,
-    wanted: (&str, &str),
+    wanted: &(Bank, u8, &str),
 ) -> Result<(), OutOfMemory> {
+    let (bank, pcr, digits) = *wanted;
     assert!(rt; pcr < 24);
-    is_hex(
-        rt,
-        alloc,
-        banks.value(Bank::Sha1, pcr),
-        wanted.0,
-        "the bank of SHA-1",
-    )?;
-    is_hex(
-        rt,
-        alloc,
-        banks.value(Bank::Sha256, pcr),
-        wanted.1,
-        "the bank of SHA-256",
-    )
+    is_hex(rt, alloc, banks.value(bank, pcr), digits, "a register")
+}
+
+// What the registers hold after the other list.
+fn has_registers(rt: &impl Abort, alloc: Global, list: &[Entry]) -> Result<(), OutOfMemory> {
+    let banks = banks_of(list);
+    for wanted in &OTHER_REGISTERS {
+        register_is(rt, alloc, &banks, wanted)?;
+    }
+    Ok(())
 }
 
 // The other list's records, its line of a buffer, and its registers.
 fn is_other_list(rt: &impl Abort, alloc: Global, list: &[Entry]) -> Result<(), OutOfMemory> {
     has_records(rt, alloc, list, OTHER_RECORDS)?;
     has_line(rt, alloc, list.get(4), BUF_LINE)?;
-    let banks = banks_of(list);
-    register_is(rt, alloc, &banks, 10, OTHER_PCR_10)?;
-    register_is(rt, alloc, &banks, 9, OTHER_PCR_9)
+    has_registers(rt, alloc, list)
 }
 
 #[test]

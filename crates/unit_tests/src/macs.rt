@@ -1,5 +1,6 @@
 use crate::checks::is_same;
 use hmac_core::*;
+use std::process::Abort;
 
 struct Vector {
     key: &'static [u8],
@@ -9,7 +10,7 @@ struct Vector {
 
 // The test cases of RFC 2202, section 3, with their HMACs.
 #[rattlefmt::skip]
-const VECTORS: [Vector; 7] = [
+static VECTORS: [Vector; 7] = [
     Vector { key: &[0x0b; 20],
         message: b"Hi There",
         mac: b"\xb6\x17\x31\x86\x55\x05\x72\x64\xe2\x8b\xc0\xb6\xfb\x37\x8c\x8e\xf1\x46\xbe\x00" },
@@ -42,11 +43,16 @@ fn mac_in_two(vector: &Vector, cut: usize) -> [u8; MAC_LEN] {
     state.finish()
 }
 
+// Compares the HMAC of each message, of which the first piece has `cut` bytes.
+fn agree(rt: &impl Abort, cut: usize, case: &str) {
+    for vector in &VECTORS {
+        is_same(rt, &mac_in_two(vector, cut), vector.mac, case);
+    }
+}
+
 #[test]
 fn the_vectors_of_rfc_2202(rt: HostRuntime) {
-    for vector in &VECTORS {
-        is_same(&rt, &mac_in_two(vector, 0), vector.mac, "in one piece");
-        is_same(&rt, &mac_in_two(vector, 1), vector.mac, "after one byte");
-        is_same(&rt, &mac_in_two(vector, 64), vector.mac, "after 64 bytes");
-    }
+    agree(&rt, 0, "in one piece");
+    agree(&rt, 1, "after one byte");
+    agree(&rt, 64, "after 64 bytes");
 }

@@ -8,40 +8,42 @@ use ima_io::{
 use std::alloc::{AllocError as OutOfMemory, Global};
 use std::io;
 use std::io::{ErrorKind, Read, Write};
-use std::process::Abort;
 
-// The bytes of a source, the most that a call gives, the calls that fail, the limit, and what comes
-// of reading it to its end.
-type SourceRow = (
-    &'static [u8],
-    usize,
-    &'static [u64],
-    usize,
-    Result<&'static [u8], ReadErr>,
-);
+// A source in memory, the limit, and what comes of reading it to its end.
+struct SourceRow {
+    case: &'static str,
+    bytes: &'static [u8],
+    // The most bytes that a call gives, at least 1.
+    piece: usize,
+    // The calls that fail.
+    fails: &'static [u64],
+    limit: usize,
+    got: Result<&'static [u8], ReadErr>,
+}
 
-const SOURCES: [SourceRow; 7] = [
-    (b"", 1, &[], 0, Ok(b"")),
-    (b"seven b", 100, &[], 7, Ok(b"seven b")),
-    (b"seven b", 2, &[], usize::MAX, Ok(b"seven b")),
-    (b"seven b", 3, &[], 6, Err(ReadErr::TooLong)),
-    (b"seven b", 3, &[0], 7, Err(ReadErr::Fault)),
-    (b"seven b", 3, &[2], 7, Err(ReadErr::Fault)),
-    (b"seven b", 3, &[4], 7, Ok(b"seven b")),
+#[rattlefmt::skip]
+static SOURCES: [SourceRow; 7] = [
+    SourceRow { case: "no bytes", bytes: b"", piece: 1, fails: &[],
+        limit: 0, got: Ok(b"") },
+    SourceRow { case: "a piece", bytes: b"seven b", piece: 100, fails: &[],
+        limit: 7, got: Ok(b"seven b") },
+    SourceRow { case: "four pieces", bytes: b"seven b", piece: 2, fails: &[],
+        limit: usize::MAX, got: Ok(b"seven b") },
+    SourceRow { case: "a byte too many", bytes: b"seven b", piece: 3, fails: &[],
+        limit: 6, got: Err(ReadErr::TooLong) },
+    SourceRow { case: "no call", bytes: b"seven b", piece: 3, fails: &[0],
+        limit: 7, got: Err(ReadErr::Fault) },
+    SourceRow { case: "two calls", bytes: b"seven b", piece: 3, fails: &[2],
+        limit: 7, got: Err(ReadErr::Fault) },
+    SourceRow { case: "a fault that isn't met", bytes: b"seven b", piece: 3, fails: &[4],
+        limit: 7, got: Ok(b"seven b") },
 ];
 
-// A source of these bytes.
-fn source(
-    rt: &impl Abort,
-    alloc: Global,
-    bytes: &[u8],
-    piece: usize,
-    fails: &[u64],
-) -> Result<MemSource, OutOfMemory> {
-    assert!(rt; piece > 0);
-    let bytes = bytes.to_vec(alloc)?;
-    let fails = fails.to_vec(alloc)?;
-    Ok(MemSource::new(bytes, piece, fails))
+// The source of this row.
+fn source(alloc: Global, row: &SourceRow) -> Result<MemSource, OutOfMemory> {
+    let bytes = row.bytes.to_vec(alloc)?;
+    let fails = row.fails.to_vec(alloc)?;
+    Ok(MemSource::new(bytes, row.piece.max(1), fails))
 }
 
 // Whether this came of reading.
@@ -53,71 +55,66 @@ fn is_read(got: Result<Vec<u8>, ReadErr>, want: Result<&[u8], ReadErr>) -> bool 
     }
 }
 
-// Reads the source of this row to its end.
-fn read_row(rt: &impl Abort, alloc: Global, row: &SourceRow, case: u64) -> Result<(), OutOfMemory> {
-    let (bytes, piece, fails, limit, want) = *row;
-    let mut source = source(rt, alloc, bytes, piece, fails)?;
-    let well = is_read(read_all(alloc, &mut source, limit), want);
-    assert!(rt; well, "source {case}");
-    Ok(())
-}
-
-#[test]
-fn a_source_is_read_to_its_end(rt: HostRuntime) -> Result<(), OutOfMemory> {
-    for (case, row) in SOURCES.iter().enumerate() {
-        read_row(&rt, rt.alloc(), row, case as u64)?;
+// Whether the source of this row is read as the row says. It is not if memory runs out.
+fn is_row_read(alloc: Global, row: &SourceRow) -> bool {
+    match source(alloc, row) {
+        Ok(mut source) => is_read(read_all(alloc, &mut source, row.limit), row.got),
+        Err(_) => false,
     }
-    Ok(())
 }
 
-// A source that takes more than one chunk to read.
 #[test]
-fn a_long_source_is_read_whole(rt: HostRuntime) -> Result<(), OutOfMemory> {
-    let bytes = vec![in rt.alloc(); b'x'; 200_001]?;
-    let mut source = MemSource::new(bytes, usize::MAX, Vec::new(rt.alloc()));
-    let got = read_all(rt.alloc(), &mut source, 200_001);
-    holds(
-        &rt,
-        got.is_ok_and(|got| got.len() == 200_001),
-        "a long source",
-    );
-    Ok(())
+fn a_source_is_read_to_its_end(rt: HostRuntime) {
+    for row in &SOURCES {
+        holds(&rt, is_row_read(rt.alloc(), row), row.case);
+    }
 }
 
-// The room of a sink, its most bytes per call, the calls that fail, whether a piece of seven bytes
-// goes in whole, and the bytes that the sink took.
-type SinkRow = (
-    usize,
-    usize,
-    &'static [u64],
-    Result<(), Failed>,
-    &'static [u8],
-);
+// A sink in memory, whether a piece of seven bytes goes in whole, and the bytes that the sink took.
+struct SinkRow {
+    case: &'static str,
+    room: usize,
+    // The most bytes that a call takes, at least 1.
+    piece: usize,
+    // The calls that fail.
+    fails: &'static [u64],
+    got: Result<(), Failed>,
+    taken: &'static [u8],
+}
 
-const SINKS: [SinkRow; 5] = [
-    (7, 100, &[], Ok(()), b"seven b"),
-    (9, 3, &[3], Ok(()), b"seven b"),
-    (6, 4, &[], Err(Failed), b"seven "),
-    (7, 3, &[0], Err(Failed), b""),
-    (7, 3, &[2], Err(Failed), b"seven "),
+#[rattlefmt::skip]
+static SINKS: [SinkRow; 5] = [
+    SinkRow { case: "just enough room", room: 7, piece: 100, fails: &[],
+        got: Ok(()), taken: b"seven b" },
+    SinkRow { case: "a fault that isn't met", room: 9, piece: 3, fails: &[3],
+        got: Ok(()), taken: b"seven b" },
+    SinkRow { case: "a byte too little room", room: 6, piece: 4, fails: &[],
+        got: Err(Failed), taken: b"seven " },
+    SinkRow { case: "no call", room: 7, piece: 3, fails: &[0],
+        got: Err(Failed), taken: b"" },
+    SinkRow { case: "two calls", room: 7, piece: 3, fails: &[2],
+        got: Err(Failed), taken: b"seven " },
 ];
 
-// Writes a piece to the sink of this row.
-fn write_row(rt: &impl Abort, alloc: Global, row: &SinkRow, case: u64) -> Result<(), OutOfMemory> {
-    let (room, piece, fails, want, taken) = *row;
-    assert!(rt; piece > 0);
-    let mut sink = MemSink::new(alloc, room, piece, fails.to_vec(alloc)?)?;
-    let got = write_all(&mut sink, b"seven b");
-    assert!(rt; got == want && sink.taken() == taken, "sink {case}");
-    Ok(())
+// The sink of this row.
+fn sink(alloc: Global, row: &SinkRow) -> Result<MemSink, OutOfMemory> {
+    let fails = row.fails.to_vec(alloc)?;
+    MemSink::new(alloc, row.room, row.piece.max(1), fails)
+}
+
+// Whether a piece is written to the sink of this row as the row says. It is not if memory runs out.
+fn is_row_written(alloc: Global, row: &SinkRow) -> bool {
+    match sink(alloc, row) {
+        Ok(mut sink) => write_all(&mut sink, b"seven b") == row.got && sink.taken() == row.taken,
+        Err(_) => false,
+    }
 }
 
 #[test]
-fn a_piece_is_written_whole(rt: HostRuntime) -> Result<(), OutOfMemory> {
-    for (case, row) in SINKS.iter().enumerate() {
-        write_row(&rt, rt.alloc(), row, case as u64)?;
+fn a_piece_is_written_whole(rt: HostRuntime) {
+    for row in &SINKS {
+        holds(&rt, is_row_written(rt.alloc(), row), row.case);
     }
-    Ok(())
 }
 
 // A stream of the system whose every call returns the same: an error, or no bytes.
@@ -150,18 +147,26 @@ impl Write for Stuck {
     }
 }
 
-#[test]
-fn a_stream_of_the_system_is_put_after_the_traits(rt: HostRuntime) -> Result<(), OutOfMemory> {
+// Whether all bytes of a stream of the system are read.
+fn is_stream_read(alloc: Global) -> bool {
     let input: &[u8] = b"seven b";
-    let read = read_all(rt.alloc(), &mut StdSource::new(input), 7);
-    assert!(rt; read.is_ok_and(|bytes| bytes.as_slice() == input));
-    assert!(rt; write_all(&mut StdSink::new(Vec::new(rt.alloc())), input).is_ok());
+    is_read(read_all(alloc, &mut StdSource::new(input), 7), Ok(input))
+}
+
+// Whether all bytes are written to a stream of the system.
+fn is_stream_written(alloc: Global) -> bool {
+    write_all(&mut StdSink::new(Vec::new(alloc)), b"seven b").is_ok()
+}
+
+#[test]
+fn a_stream_of_the_system_is_put_after_the_traits(rt: HostRuntime) {
+    holds(&rt, is_stream_read(rt.alloc()), "reading");
+    holds(&rt, is_stream_written(rt.alloc()), "writing");
     FreeGate.pass(Who {
         task: 0,
         call: 0,
         step: 0,
     });
-    Ok(())
 }
 
 // What reading four bytes from a stuck stream gives.
@@ -175,15 +180,20 @@ fn stuck_write(error: bool, bytes: &[u8]) -> Result<usize, Failed> {
     StdSink::new(Stuck { error }).write(bytes)
 }
 
+// Whether the stream's faults and its end are told to one who reads.
+fn reads_are_told() -> bool {
+    stuck_read(true) == Err(Failed) && stuck_read(false) == Ok(0)
+}
+
+// Whether the stream's faults are told to one who writes, also that nothing is taken of a byte.
+fn writes_are_told() -> bool {
+    stuck_write(true, b"x") == Err(Failed)
+        && stuck_write(false, b"x") == Err(Failed)
+        && stuck_write(false, b"") == Ok(0)
+}
+
 #[test]
 fn a_fault_of_the_system_is_told(rt: HostRuntime) {
-    holds(&rt, stuck_read(true) == Err(Failed), "reading fails");
-    holds(&rt, stuck_read(false) == Ok(0), "reading is at the end");
-    holds(&rt, stuck_write(true, b"x") == Err(Failed), "writing fails");
-    holds(
-        &rt,
-        stuck_write(false, b"x") == Err(Failed),
-        "nothing is taken",
-    );
-    holds(&rt, stuck_write(false, b"") == Ok(0), "nothing is written");
+    holds(&rt, reads_are_told(), "reading");
+    holds(&rt, writes_are_told(), "writing");
 }
