@@ -1,7 +1,6 @@
 //! Tests of what no case of `worked_runs` holds or shows: vectors of digests, HMACs and registers;
-//! streams; records, labels, comments and deciding rules; the texts of scripts that are made and
-//! printed, and a command line with an empty word; and that what a caller pushed on a shared list
-//! stays there.
+//! streams; records, labels and comments; the texts of scripts that are made and printed, and a
+//! command line with an empty word; and that what a caller pushed on a shared list stays there.
 //!
 //! The tests are in a crate of their own because a crate with tests is proved twice. Their tables
 //! are statics: a constant that holds references is built anew wherever it is borrowed, and each
@@ -26,8 +25,6 @@ mod labels;
 mod lists;
 #[cfg(test)]
 mod macs;
-#[cfg(test)]
-mod matching;
 #[cfg(test)]
 mod policies;
 #[cfg(test)]
