@@ -2,11 +2,11 @@
 """bench/colours.py [FIRST SECOND [PROGRAM]]: are the right columns of two reports coloured?
 
 The page is what `imakern_view pair` makes of the reports FIRST and SECOND, or of the two schedules
-of the race in crates/worked_views/data. Which columns have to be coloured is computed here from the
-text of the reports alone: yellow are the events that the same step is told otherwise in the other
-journal, or that are missing there, and the violet line stands before the first place at which the
-journals part. Places in journals and in the list don't count. Status 1: a colour is missing or too
-many.
+of the race in crates/worked_cases/data/views. Which columns have to be coloured is computed here
+from the text of the reports alone: yellow are the events that the same step is told otherwise in
+the other journal, or that are missing there, and the violet line stands before the first place at
+which the journals part. Places in journals and in the list don't count. Status 1: a colour is
+missing or too many.
 
 The program is crates/imakern_view/out/imakern_view, which `rt run imakern_view` builds, or PROGRAM.
 """
@@ -17,7 +17,7 @@ import sys
 from itertools import zip_longest
 
 TOP = os.path.dirname(os.path.dirname(os.path.abspath(__file__)))
-DATA = os.path.join(TOP, 'crates', 'worked_views', 'data')
+DATA = os.path.join(TOP, 'crates', 'worked_cases', 'data', 'views')
 BUILT = os.path.join(TOP, 'crates', 'imakern_view', 'out', 'imakern_view')
 ON_A_FILE = {'check', 'take', 'chunk', 'finish', 'read', 'write', 'trunc',
              'close', 'close-take', 'close-chunk', 'close-finish'}

@@ -2,8 +2,8 @@
 """Every order of a script's steps, one after the other, and their outcomes: what imakern_orders
 must print. orders.py IMAKERN ORDERS [SCRIPT..] compares the two programs on each script, or on the
 scripts below if none is named, also for the orders that begin with some turns.
-orders.py IMAKERN store writes the scripts below and their rows into crates/worked_orders/data. Each
-read of a script must read its whole file from 0."""
+orders.py IMAKERN store writes the scripts below and their rows into
+crates/worked_cases/data/orders. Each read of a script must read its whole file from 0."""
 import os
 import subprocess
 import sys
@@ -140,8 +140,9 @@ def is_same(program, text, first, want):
 
 def store(imakern):
     top = os.path.dirname(os.path.dirname(os.path.abspath(__file__)))
+    folder = os.path.join(top, "crates", "worked_cases", "data", "orders")
     for name, text in SCRIPTS.items():
-        path = os.path.join(top, "crates", "worked_orders", "data", name.replace(" ", "_"))
+        path = os.path.join(folder, name.replace(" ", "_"))
         for end, content in ("script", text), ("orders", rows(Runs(imakern, text))):
             with open(path + "." + end, "w") as out:
                 out.write(content)

@@ -1,7 +1,8 @@
 // An empty word, which a case of `worked_runs` can't have: its words are parted by spaces.
-use crate::checks::holds;
 use command_line::command_of;
 use std::alloc::{AllocError as OutOfMemory, Global};
+use std::io;
+use worked_calls::row;
 
 // The words, and where the empty one of them is.
 static ROWS: [(&[&str], &str); 3] = [
@@ -25,10 +26,11 @@ fn name_nothing(alloc: Global, texts: &[&str]) -> Result<bool, OutOfMemory> {
     Ok(command_of(alloc, &words)?.is_none())
 }
 
-#[test]
-fn an_empty_word_is_no_command(rt: HostRuntime) -> Result<(), OutOfMemory> {
+/// An empty word is no command.
+pub fn hold(rt: &HostRuntime) -> io::Result<bool> {
+    let mut all = true;
     for (texts, case) in &ROWS {
-        holds(&rt, name_nothing(rt.alloc(), texts)?, case);
+        all &= row(rt, "an empty word", case, name_nothing(rt.alloc(), texts)?)?;
     }
-    Ok(())
+    Ok(all)
 }

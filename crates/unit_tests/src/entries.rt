@@ -4,7 +4,6 @@ use hash_algos::{Algo, Digest};
 use ima_templates::{Entry, build, can_show, violation};
 use inode_meta::Template;
 use std::alloc::{AllocError as OutOfMemory, Global};
-use std::process::Abort;
 
 const ABC_SHA1: &[u8] =
     b"\xa9\x99\x3e\x36\x47\x06\x81\x6a\xba\x3e\x25\x71\x78\x50\xc2\x6c\x9c\xd0\xd8\x9d";
@@ -20,29 +19,29 @@ fn digest(algo: Algo, content: &[u8], abc: &[u8]) -> Digest {
     Digest::from_slice(algo, abc).unwrap_or(Digest::zeros(algo))
 }
 
-/// The entry of a file or buffer whose content is `abc`, or whose digest is zeros.
+/// The entry of a file or buffer whose content is `abc`, or whose digest is zeros; none, if there is
+/// no such entry.
 pub fn entry(
-    rt: &impl Abort,
     alloc: Global,
     pcr: u8,
     template: Template,
     content: &[u8],
     path: &[u8],
     sig: &[u8],
-) -> Result<Entry, OutOfMemory> {
+) -> Result<Option<Entry>, OutOfMemory> {
     let file = digest(Algo::Sha256, content, ABC_SHA256);
     let sha1 = digest(Algo::Sha1, content, ABC_SHA1);
     let fits = pcr < 24 && sha1.algo() == Algo::Sha1 && sig.len() <= 4096;
-    assert!(rt; fits && can_show(template, path));
-    build(alloc, pcr, template, &file, &sha1, path, sig)
+    if !fits || !can_show(template, path) {
+        return Ok(None);
+    }
+    Ok(Some(build(alloc, pcr, template, &file, &sha1, path, sig)?))
 }
 
-/// The violation of `/a`.
-pub fn violation_of_a(
-    rt: &impl Abort,
-    alloc: Global,
-    template: Template,
-) -> Result<Entry, OutOfMemory> {
-    assert!(rt; template != Template::ImaBuf && can_show(template, b"/a"));
-    violation(alloc, template, Algo::Sha256, b"/a")
+/// The violation of `/a`; none, if the template has none.
+pub fn violation_of_a(alloc: Global, template: Template) -> Result<Option<Entry>, OutOfMemory> {
+    if template == Template::ImaBuf || !can_show(template, b"/a") {
+        return Ok(None);
+    }
+    Ok(Some(violation(alloc, template, Algo::Sha256, b"/a")?))
 }

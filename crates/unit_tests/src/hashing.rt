@@ -1,10 +1,9 @@
 // Digests of 5,000 bytes `a` that other programs computed (`md5sum`, `sha1sum`, `sha256sum`).
 
-use crate::checks::is_same;
 use hash_algos::{Algo, Digest};
 use inode_hashing::Hashing;
-use std::alloc::AllocError as OutOfMemory;
-use std::process::Abort;
+use std::io;
+use worked_calls::row;
 
 const MD5: &[u8] = b"\x7a\xaa\x7d\xec\x70\x9f\xa4\xfa\x82\xf3\x74\x6a\xbf\xd8\x0b\xdb";
 
@@ -24,24 +23,32 @@ fn by_pieces(algo: Algo, bytes: &[u8], cut: usize) -> (Digest, Digest) {
     hashing.finish()
 }
 
-// Compares both digests with those of other programs.
-fn are_those(rt: &impl Abort, got: &(Digest, Digest), wanted: &[u8], case: &str) {
-    is_same(rt, got.0.as_slice(), wanted, case);
-    is_same(rt, got.1.as_slice(), SHA1, case);
+// Whether both digests are those of other programs.
+fn are_those(got: &(Digest, Digest), wanted: &[u8]) -> bool {
+    got.0.as_slice() == wanted && got.1.as_slice() == SHA1
 }
 
-// Compares the digests of the bytes, of which the first piece has `cut`, by each algorithm.
-fn agree(rt: &impl Abort, bytes: &[u8], cut: usize) {
-    for (algo, wanted) in &DIGESTS {
-        are_those(rt, &by_pieces(*algo, bytes, cut), wanted, algo.name());
-    }
-}
-
-#[test]
-fn both_digests_are_those_of_other_programs(rt: HostRuntime) -> Result<(), OutOfMemory> {
-    let bytes = vec![in rt.alloc(); b'a'; 5000]?;
+// Whether they are, wherever the bytes are cut.
+fn agree(algo: Algo, bytes: &[u8], wanted: &[u8]) -> bool {
     for cut in &[0, 1, 4096] {
-        agree(&rt, &bytes, *cut);
+        if !are_those(&by_pieces(algo, bytes, *cut), wanted) {
+            return false;
+        }
     }
-    Ok(())
+    true
+}
+
+/// Compares both digests, by each algorithm.
+pub fn hold(rt: &HostRuntime) -> io::Result<bool> {
+    let bytes = vec![in rt.alloc(); b'a'; 5000]?;
+    let mut all = true;
+    for (algo, wanted) in &DIGESTS {
+        all &= row(
+            rt,
+            "both digests",
+            algo.name(),
+            agree(*algo, &bytes, wanted),
+        )?;
+    }
+    Ok(all)
 }

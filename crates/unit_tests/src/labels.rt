@@ -2,6 +2,8 @@
 // known, so no run shows how it is written.
 use hash_algos::{Algo, Digest};
 use label_values::*;
+use std::io;
+use worked_calls::row;
 
 const LABEL: &[u8] =
     b"\x04\x02\x21\x22\x23\x24\x25\x26\x27\x28\x29\x2a\x2b\x2c\x2d\x2e\x2f\x30\x00\x00\x00\x00";
@@ -19,7 +21,12 @@ fn is_written(algo: Algo, label: &[u8]) -> bool {
     out.get(..len) == Some(label)
 }
 
-#[test]
-fn a_sha1_that_ends_in_zeros_is_written_with_its_number(rt: HostRuntime) {
-    assert!(rt; is_written(Algo::Sha1, LABEL));
+/// A SHA-1 that ends in zeros is written with its number.
+pub fn hold(rt: &HostRuntime) -> io::Result<bool> {
+    row(
+        rt,
+        "a label",
+        "a SHA-1 that ends in zeros",
+        is_written(Algo::Sha1, LABEL),
+    )
 }

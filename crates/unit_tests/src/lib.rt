@@ -2,36 +2,52 @@
 //! streams; records, labels and comments; the texts of scripts that are made and printed, and a
 //! command line with an empty word; and that what a caller pushed on a shared list stays there.
 //!
-//! The tests are in a crate of their own because a crate with tests is proved twice. Their tables
-//! are statics: a constant that holds references is built anew wherever it is borrowed, and each
-//! part of it is a step of the proof.
+//! `worked_cases` calls `hold`. The tests are no `#[test]` functions, since a crate that has some is
+//! proved twice and is a program of its own. Their tables are statics: a constant that holds
+//! references is built anew wherever it is borrowed, and each part of it is a step of the proof.
 #![tactic(auto)]
 
-#[cfg(test)]
 mod checks;
-#[cfg(test)]
 mod command_words;
-#[cfg(test)]
 mod digests;
-#[cfg(test)]
 mod entries;
-#[cfg(test)]
 mod growing;
-#[cfg(test)]
 mod hashing;
-#[cfg(test)]
 mod labels;
-#[cfg(test)]
 mod lists;
-#[cfg(test)]
 mod macs;
-#[cfg(test)]
 mod policies;
-#[cfg(test)]
 mod registers;
-#[cfg(test)]
 mod script_generating;
-#[cfg(test)]
 mod script_printing;
-#[cfg(test)]
 mod streams;
+
+use std::io;
+
+/// Prints a line for each case, and returns whether all hold.
+pub fn hold(rt: &HostRuntime) -> io::Result<bool> {
+    let mut all = digests_hold(rt)?;
+    all &= labels::hold(rt)?;
+    all &= policies::hold(rt)?;
+    all &= lists::hold(rt)?;
+    all &= streams::hold(rt)?;
+    all &= texts_hold(rt)?;
+    Ok(all)
+}
+
+// Digests, HMACs and registers.
+fn digests_hold(rt: &HostRuntime) -> io::Result<bool> {
+    let mut all = digests::hold(rt)?;
+    all &= hashing::hold(rt)?;
+    all &= macs::hold(rt)?;
+    all &= registers::hold(rt)?;
+    Ok(all)
+}
+
+// Scripts and words.
+fn texts_hold(rt: &HostRuntime) -> io::Result<bool> {
+    let mut all = script_generating::hold(rt)?;
+    all &= script_printing::hold(rt)?;
+    all &= command_words::hold(rt)?;
+    Ok(all)
+}

@@ -5,7 +5,7 @@
 // list has the template `ima`, which it takes in no list with others, and the other list has the
 // rest. The registers of the one are in a case of `worked_runs`.
 
-use crate::checks::{is_hex, is_same};
+use crate::checks::is_hex;
 use crate::entries::{entry, violation_of_a};
 use ima_templates::Entry;
 use inode_meta::{Bank, Template};
@@ -13,7 +13,8 @@ use list_format::{ascii, binary};
 use measure_book::extend;
 use measure_book::registers::Banks;
 use std::alloc::{AllocError as OutOfMemory, Global};
-use std::process::Abort;
+use std::io;
+use worked_calls::row;
 
 const IMA_RECORDS: &str =
     "0a000000719de8e521439498e9b77f6ed41e230b9821111e03000000696d610000000000000000000000000000000000\
@@ -84,51 +85,42 @@ static OTHER_LIST: [Line; 7] = [
 ];
 
 // The entry of a line.
-fn entry_of(rt: &impl Abort, alloc: Global, line: &Line) -> Result<Entry, OutOfMemory> {
+fn entry_of(alloc: Global, line: &Line) -> Result<Option<Entry>, OutOfMemory> {
     match line {
         File(pcr, template, content, path, sig) => {
-            entry(rt, alloc, *pcr, *template, content, path, sig)
+            entry(alloc, *pcr, *template, content, path, sig)
         }
-        Violation(template) => violation_of_a(rt, alloc, *template),
+        Violation(template) => violation_of_a(alloc, *template),
     }
 }
 
 // The list of these lines.
-fn list_of(rt: &impl Abort, alloc: Global, lines: &[Line]) -> Result<Vec<Entry>, OutOfMemory> {
+fn list_of(alloc: Global, lines: &[Line]) -> Result<Vec<Entry>, OutOfMemory> {
     let mut list = Vec::new(alloc);
     for line in lines {
-        list.push(entry_of(rt, alloc, line)?)?;
+        if let Some(entry) = entry_of(alloc, line)? {
+            list.push(entry)?;
+        }
     }
     Ok(list)
 }
 
-// The list's records are these.
-fn has_records(
-    rt: &impl Abort,
-    alloc: Global,
-    list: &[Entry],
-    records: &str,
-) -> Result<(), OutOfMemory> {
+// Whether the list's records are these.
+fn has_records(alloc: Global, list: &[Entry], records: &str) -> Result<bool, OutOfMemory> {
     let mut bytes = Vec::new(alloc);
     for e in list {
         binary(e, &mut bytes)?;
     }
-    is_hex(rt, alloc, &bytes, records, "the records")
+    is_hex(alloc, &bytes, records)
 }
 
-// The line of the entry is this.
-fn has_line(
-    rt: &impl Abort,
-    alloc: Global,
-    entry: Option<&Entry>,
-    wanted: &str,
-) -> Result<(), OutOfMemory> {
+// Whether the line of the entry is this.
+fn has_line(alloc: Global, entry: Option<&Entry>, wanted: &str) -> Result<bool, OutOfMemory> {
     let mut line = Vec::new(alloc);
     if let Some(entry) = entry {
         ascii(entry, &mut line)?;
     }
-    is_same(rt, &line, wanted.as_bytes(), "the line");
-    Ok(())
+    Ok(line.as_slice() == wanted.as_bytes())
 }
 
 // The registers after the list.
@@ -140,42 +132,51 @@ fn banks_of(list: &[Entry]) -> Banks {
     banks
 }
 
-// What the register holds in the bank.
+// Whether the register holds this in the bank.
 fn register_is(
-    rt: &impl Abort,
     alloc: Global,
     banks: &Banks,
     wanted: &(Bank, u8, &str),
-) -> Result<(), OutOfMemory> {
+) -> Result<bool, OutOfMemory> {
     let (bank, pcr, digits) = *wanted;
-    assert!(rt; pcr < 24);
-    is_hex(rt, alloc, banks.value(bank, pcr), digits, "a register")
-}
-
-// What the registers hold after the other list.
-fn has_registers(rt: &impl Abort, alloc: Global, list: &[Entry]) -> Result<(), OutOfMemory> {
-    let banks = banks_of(list);
-    for wanted in &OTHER_REGISTERS {
-        register_is(rt, alloc, &banks, wanted)?;
+    if pcr >= 24 {
+        return Ok(false);
     }
-    Ok(())
+    is_hex(alloc, banks.value(bank, pcr), digits)
 }
 
-// The other list's records, its line of a buffer, and its registers.
-fn is_other_list(rt: &impl Abort, alloc: Global, list: &[Entry]) -> Result<(), OutOfMemory> {
-    has_records(rt, alloc, list, OTHER_RECORDS)?;
-    has_line(rt, alloc, list.get(4), BUF_LINE)?;
-    has_registers(rt, alloc, list)
+// Whether the registers hold after the other list what they have to.
+fn has_registers(alloc: Global, list: &[Entry]) -> Result<bool, OutOfMemory> {
+    let banks = banks_of(list);
+    let mut all = true;
+    for wanted in &OTHER_REGISTERS {
+        all &= register_is(alloc, &banks, wanted)?;
+    }
+    Ok(all)
 }
 
-#[test]
-fn a_list_of_ima_is_that_of_evmctl(rt: HostRuntime) -> Result<(), OutOfMemory> {
-    let list = list_of(&rt, rt.alloc(), &IMA_LIST)?;
-    has_records(&rt, rt.alloc(), &list, IMA_RECORDS)
+// Whether the records of the list of `ima` are those that were written out.
+fn is_ima_list(alloc: Global) -> Result<bool, OutOfMemory> {
+    let list = list_of(alloc, &IMA_LIST)?;
+    has_records(alloc, &list, IMA_RECORDS)
 }
 
-#[test]
-fn a_list_of_the_others_is_that_of_evmctl(rt: HostRuntime) -> Result<(), OutOfMemory> {
-    let list = list_of(&rt, rt.alloc(), &OTHER_LIST)?;
-    is_other_list(&rt, rt.alloc(), &list)
+// Whether the other list's records are, its line of a buffer, and its registers.
+fn is_other_list(alloc: Global) -> Result<bool, OutOfMemory> {
+    let list = list_of(alloc, &OTHER_LIST)?;
+    let records = has_records(alloc, &list, OTHER_RECORDS)?;
+    let line = has_line(alloc, list.get(4), BUF_LINE)?;
+    Ok(has_registers(alloc, &list)? && records && line)
+}
+
+/// Compares both lists.
+pub fn hold(rt: &HostRuntime) -> io::Result<bool> {
+    let mut all = row(rt, "a list of evmctl", "ima", is_ima_list(rt.alloc())?)?;
+    all &= row(
+        rt,
+        "a list of evmctl",
+        "the others",
+        is_other_list(rt.alloc())?,
+    )?;
+    Ok(all)
 }

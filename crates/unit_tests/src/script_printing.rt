@@ -1,19 +1,22 @@
 // What no contract says: a text and the canonical text of its script, which is its own canonical
 // text.
 
-use crate::checks::holds;
 use load_gen::prints::print;
 use script_text::parse;
 use std::alloc::Global;
+use std::io;
+use worked_calls::row;
 
-static ROWS: [(&str, &str); 3] = [
+static ROWS: [(&str, &str, &str); 3] = [
     (
+        "the shortest",
         "imakern 1\nrounds\n",
         "imakern 1\nhash sha256\ntemplate ima-ng\n\
             boot hex:0000000000000000000000000000000000000000000000000000000000000000\n\
             appraise off\nevm_format 1\nrounds\n",
     ),
     (
+        "each kind of line",
         "imakern 1\n# c\nhash sha1\ntemplate ima\nappraise fix\nevm_xattrs security.x\n\
             evm_xattrs .\nevm_format 2\n\
             fs magic=EF53 uuid=00000000-0000-0000-0000-00000000000A name=ext4 noversions\n\
@@ -40,6 +43,7 @@ static ROWS: [(&str, &str); 3] = [
     ),
     // The values that a seal writes are printed among the attributes.
     (
+        "a seal",
         "imakern 1\n\
             fs magic=0xef53 uuid=00000000-0000-0000-0000-000000000001 name=ext4 versions\n\
             file /a fs=0 ino=12 gen=1 uid=0 gid=0 mode=100644 content=txt:abc\n\
@@ -69,10 +73,13 @@ fn is_printed(alloc: Global, text: &str, canonical: &str) -> bool {
     }
 }
 
-#[test]
-fn scripts_are_printed(rt: HostRuntime) {
-    for (text, canonical) in &ROWS {
-        holds(&rt, is_printed(rt.alloc(), text, canonical), text);
-        holds(&rt, is_printed(rt.alloc(), canonical, canonical), canonical);
+/// Prints the script of each row, and that of its canonical text.
+pub fn hold(rt: &HostRuntime) -> io::Result<bool> {
+    let mut all = true;
+    for (case, text, canonical) in &ROWS {
+        let well = is_printed(rt.alloc(), text, canonical);
+        let again = is_printed(rt.alloc(), canonical, canonical);
+        all &= row(rt, "a printed script", case, well && again)?;
     }
+    Ok(all)
 }

@@ -1,6 +1,5 @@
 // Tests of what no contract says: that the calls succeed if memory is ample, and how faults of the
 // system's streams are reported.
-use crate::checks::holds;
 use ima_io::{
     Failed, FreeGate, Gate, MemSink, MemSource, ReadErr, Sink, Source, StdSink, StdSource, Who,
     read_all, write_all,
@@ -8,6 +7,7 @@ use ima_io::{
 use std::alloc::{AllocError as OutOfMemory, Global};
 use std::io;
 use std::io::{ErrorKind, Read, Write};
+use worked_calls::row;
 
 // A source in memory, the limit, and what comes of reading it to its end.
 struct SourceRow {
@@ -63,11 +63,13 @@ fn is_row_read(alloc: Global, row: &SourceRow) -> bool {
     }
 }
 
-#[test]
-fn a_source_is_read_to_its_end(rt: HostRuntime) {
-    for row in &SOURCES {
-        holds(&rt, is_row_read(rt.alloc(), row), row.case);
+// Reads each source to its end.
+fn sources_hold(rt: &HostRuntime) -> io::Result<bool> {
+    let mut all = true;
+    for source in &SOURCES {
+        all &= row(rt, "a source", source.case, is_row_read(rt.alloc(), source))?;
     }
+    Ok(all)
 }
 
 // A sink in memory, whether a piece of seven bytes goes in whole, and the bytes that the sink took.
@@ -110,11 +112,13 @@ fn is_row_written(alloc: Global, row: &SinkRow) -> bool {
     }
 }
 
-#[test]
-fn a_piece_is_written_whole(rt: HostRuntime) {
-    for row in &SINKS {
-        holds(&rt, is_row_written(rt.alloc(), row), row.case);
+// Writes a piece to each sink.
+fn sinks_hold(rt: &HostRuntime) -> io::Result<bool> {
+    let mut all = true;
+    for sink in &SINKS {
+        all &= row(rt, "a sink", sink.case, is_row_written(rt.alloc(), sink))?;
     }
+    Ok(all)
 }
 
 // A stream of the system whose every call returns the same: an error, or no bytes.
@@ -158,17 +162,6 @@ fn is_stream_written(alloc: Global) -> bool {
     write_all(&mut StdSink::new(Vec::new(alloc)), b"seven b").is_ok()
 }
 
-#[test]
-fn a_stream_of_the_system_is_put_after_the_traits(rt: HostRuntime) {
-    holds(&rt, is_stream_read(rt.alloc()), "reading");
-    holds(&rt, is_stream_written(rt.alloc()), "writing");
-    FreeGate.pass(Who {
-        task: 0,
-        call: 0,
-        step: 0,
-    });
-}
-
 // What reading four bytes from a stuck stream gives.
 fn stuck_read(error: bool) -> Result<usize, Failed> {
     let mut buf = [0; 4];
@@ -192,8 +185,34 @@ fn writes_are_told() -> bool {
         && stuck_write(false, b"") == Ok(0)
 }
 
-#[test]
-fn a_fault_of_the_system_is_told(rt: HostRuntime) {
-    holds(&rt, reads_are_told(), "reading");
-    holds(&rt, writes_are_told(), "writing");
+// Streams of the system are put after the traits, and their faults are told.
+fn system_holds(rt: &HostRuntime) -> io::Result<bool> {
+    let mut all = row(
+        rt,
+        "a stream of the system",
+        "read",
+        is_stream_read(rt.alloc()),
+    )?;
+    all &= row(
+        rt,
+        "a stream of the system",
+        "written",
+        is_stream_written(rt.alloc()),
+    )?;
+    all &= row(rt, "a fault of the system", "read", reads_are_told())?;
+    all &= row(rt, "a fault of the system", "written", writes_are_told())?;
+    Ok(all)
+}
+
+/// Tries streams in memory and those of the system.
+pub fn hold(rt: &HostRuntime) -> io::Result<bool> {
+    FreeGate.pass(Who {
+        task: 0,
+        call: 0,
+        step: 0,
+    });
+    let mut all = sources_hold(rt)?;
+    all &= sinks_hold(rt)?;
+    all &= system_holds(rt)?;
+    Ok(all)
 }

@@ -1,8 +1,9 @@
 // Streams that fail, inputs that are too long, and words of many turns.
 
-use crate::outcome::{Call, answers};
+use crate::answers::answers;
 use order_top::{DONE, MOST_INPUT, READ_FAULT, TOO_LONG, USAGE, WRITE_FAULT};
 use std::alloc::{AllocError as OutOfMemory, Global};
+use worked_calls::Call;
 
 // What is told of words that are none of the forms.
 const FORMS: &str = "usage: imakern_orders [N [FIRST]]\n";

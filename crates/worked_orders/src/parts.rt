@@ -1,9 +1,10 @@
 // Answers for parts of a script's orders, which are added.
 
-use crate::outcome::{Call, answer_over};
+use crate::answers::answer_over;
 use order_top::DONE;
 use std::alloc::{AllocError as OutOfMemory, Global};
 use std::str;
+use worked_calls::{Call, cut};
 
 // A row of an answer.
 #[derive(Clone, Copy)]
@@ -13,12 +14,6 @@ struct Row<'a> {
     // with the first order.
     first: &'a str,
     outcome: &'a str,
-}
-
-// What stands before the mark and what stands after it; the whole text and nothing, if the mark
-// isn't there.
-fn cut<'a>(text: &'a str, mark: &str) -> (&'a str, &'a str) {
-    text.split_once(mark).unwrap_or((text, ""))
 }
 
 impl<'a> Row<'a> {

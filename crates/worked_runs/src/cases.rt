@@ -1,7 +1,7 @@
 // A case of a family, and the check of an outcome against it.
-use crate::cuts::{cut, number};
-use crate::outcome::{Call, Outcome};
+use crate::numbers::number;
 use std::str;
+use worked_calls::{Call, Outcome, cut};
 
 /// One case, in the form of its text:
 ///

@@ -1,11 +1,11 @@
 // Faults of reading, writing and telling, and scripts that are cut short or too long.
+use crate::answers::answers;
 use crate::cases::Case;
-use crate::cuts::cut;
-use crate::outcome::{Call, NEVER, answers};
 use ima_top::{DONE, MOST_INPUT, READ_FAULT, REFUSED, TOO_LONG, WRITE_FAULT};
 use std::alloc::{AllocError as OutOfMemory, Global};
 use std::sync::Wait;
 use std::thread::Threads;
+use worked_calls::{Call, NEVER, cut, ends_of};
 
 /// What is tried with the case, which is a script that runs to its end, and whether every try ends
 /// as it has to. It does not if memory runs out.
@@ -105,17 +105,6 @@ fn notes_fail<R: Threads + Wait + Sync>(rt: &R, alloc: Global, case: &Case<'_>) 
         ..Call::sound(case.words, front.as_bytes())
     };
     answers(rt, alloc, call, (REFUSED, b"", ""))
-}
-
-// How many lines end in these bytes.
-fn ends_of(bytes: &[u8]) -> u64 {
-    let mut count = 0u64;
-    for byte in bytes {
-        if *byte == b'\n' {
-            count = count.saturating_add(1);
-        }
-    }
-    count
 }
 
 // What is told of a beginning of a script: the line that isn't there is the first bad one.

@@ -1,9 +1,10 @@
 // The gate of a case: one that fixes the order of some steps, one that sees which steps pass it, or
 // one at which two tasks, or two callers, wait for each other.
-use crate::cuts::{cut, number};
+use crate::numbers::number;
 use ima_io::{Gate, Who};
 use std::hint;
 use std::sync::atomic::{AtomicBool, AtomicUsize, Ordering};
+use worked_calls::cut;
 
 /// How often a task looks for another at most. That takes about a second, in which one on another
 /// thread comes; so the tasks that must not meet wait as long as those that must.

@@ -15,38 +15,38 @@
 //! differ from a plain one. A case that is `accepted` has no end, and so is refused for that alone,
 //! on the line after its last.
 //!
-//! `spread`, `cuts` and `cases` read a family, `outcome` calls `serve`, and `gates` has the gates
-//! that the first line of an input names: one that fixes the order in which the steps of threads
-//! come, one that sees which steps pass it, and one at which two tasks or callers wait for each
-//! other. `faults` cuts the input of the first case short, fails its reads and writes, and makes it
-//! too long; `callers` has 64 callers measure the same buffers on 16 threads; `locks` makes steps
-//! on one file while another is held. A line is printed for each case, and the status is 1 if one
+//! `spread` and `cases` read a family, `answers` calls `serve`, and `gates` has the gates that the
+//! first line of an input names: one that fixes the order in which the steps of threads come, one
+//! that sees which steps pass it, and one at which two tasks or callers wait for each other.
+//! `faults` cuts the input of the first case short, fails its reads and writes, and makes it too
+//! long; `callers` has 64 callers measure the same buffers on 16 threads; `locks` makes steps on
+//! one file while another is held. A line is printed for each case, and the status is 1 if one
 //! differs.
 #![tactic(auto)]
 
+mod answers;
 mod callers;
 mod cases;
-mod cuts;
 mod faults;
 mod gates;
 mod locks;
-mod outcome;
+mod numbers;
 mod spread;
 
+use crate::answers::answer_over;
 use crate::cases::Case;
-use crate::cuts::cut;
 use crate::gates::CaseGate;
-use crate::outcome::{Outcome, answer_over};
 use crate::spread::spread;
 use std::alloc::{AllocError as OutOfMemory, Global};
 use std::io::{Error, ErrorKind};
 use std::sync::Wait;
 use std::thread::Threads;
 use std::{fs, io, str};
+use worked_calls::{Outcome, all_hold, cut, row};
 
 // The families, and how often each of their cases is run. Those of `repeats` run on threads, and
 // the order of their steps is fixed, so the whole report is the same however the threads fall.
-const FAMILIES: [(&str, u32); 29] = [
+static FAMILIES: [(&str, u32); 29] = [
     ("measuring", 1),
     ("violations", 1),
     ("appraisal", 1),
@@ -162,21 +162,6 @@ fn tell(rt: &impl Print, family: &str, name: &str, got: &Outcome) -> io::Result<
 // The text that the bytes are.
 fn shown(bytes: &[u8]) -> &str {
     str::from_utf8(bytes).unwrap_or("bytes that are no text")
-}
-
-// Prints a line, and returns whether the case holds.
-fn row(rt: &impl Print, family: &str, name: &str, holds: bool) -> io::Result<bool> {
-    println!(rt; "{family}: {name}{}", if holds { "" } else { ": DIFFERS" })?;
-    Ok(holds)
-}
-
-// Prints a line for each of these, and returns whether all hold.
-fn all_hold(rt: &impl Print, family: &str, tried: &[(&str, bool)]) -> io::Result<bool> {
-    let mut all = true;
-    for (name, holds) in tried {
-        all &= row(rt, family, name, *holds)?;
-    }
-    Ok(all)
 }
 
 // The first case of this text.

@@ -1,6 +1,6 @@
 // Texts that repeat themselves.
-use crate::cuts::cut;
 use std::alloc::{AllocError as OutOfMemory, Global};
+use worked_calls::cut;
 
 /// The text in which each `{{FROM..TO TEXT}}` stands for its TEXT once for each number from FROM on
 /// and below TO, with the number in place of each `{}`. Empty if one of them has another form.

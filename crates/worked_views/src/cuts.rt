@@ -1,8 +1,9 @@
 // Reports that are cut short.
 
-use crate::outcome::answer;
+use crate::answers::answer;
 use std::alloc::{AllocError as OutOfMemory, Global};
 use view_top::REFUSED;
+use worked_calls::ends_of;
 
 /// Whether what is left of the report, wherever it is cut, is refused with its first bad line: the
 /// line that isn't whole, or that is missing.
@@ -15,17 +16,6 @@ pub fn are_refused(alloc: Global, report: &[u8]) -> Result<bool, OutOfMemory> {
     Ok(true)
 }
 
-// How many lines end in these bytes.
-fn ends_of(bytes: &[u8]) -> u64 {
-    let mut count = 0u64;
-    for byte in bytes {
-        if *byte == b'\n' {
-            count = count.saturating_add(1);
-        }
-    }
-    count
-}
-
 // The note that refuses what is left: its last line isn't whole, or is missing.
 fn note_of(alloc: Global, cut: &[u8]) -> Result<String, OutOfMemory> {
     let line = ends_of(cut).saturating_add(1);
@@ -34,5 +24,5 @@ fn note_of(alloc: Global, cut: &[u8]) -> Result<String, OutOfMemory> {
 
 fn is_refused(alloc: Global, cut: &[u8]) -> Result<bool, OutOfMemory> {
     let note = note_of(alloc, cut)?;
-    Ok(answer(alloc, "page", cut)?.is(REFUSED, b"", note.as_str()))
+    Ok(answer(alloc, "page", cut)?.is((REFUSED, b"", note.as_str())))
 }

@@ -1,22 +1,23 @@
-//! Worked orders: `order_top::serve` on sources and sinks in memory, with the scripts of `data/`.
+//! Worked orders: `order_top::serve` on sources and sinks in memory, with the scripts of
+//! `worked_cases/data/orders`.
 //!
 //! The stored answers come from `bench/orders.py`, which runs every order of a script by
 //! `imakern run` and makes the rows of the reports; `bench/orders.py IMAKERN store` writes scripts
 //! and answers anew. The answers for the orders that begin with some turns are added here, and have
-//! to be the whole. A line is printed for each case, and the status is 1 if one differs.
+//! to be the whole.
 #![tactic(auto)]
 
+mod answers;
 mod faults;
-mod outcome;
 mod parts;
 
-use crate::outcome::{Call, answers};
+use crate::answers::answers;
 use order_top::{DONE, REFUSED, TOO_MANY, USAGE};
-use std::io::{Error, ErrorKind};
 use std::{fs, io};
+use worked_calls::{Call, all_hold, row};
 
 // The names of the scripts.
-const SCRIPTS: [&str; 8] = [
+static SCRIPTS: [&str; 8] = [
     "no_task",
     "opens",
     "opens_without_a_rule",
@@ -28,7 +29,7 @@ const SCRIPTS: [&str; 8] = [
 ];
 
 // The words that ask for the parts of which a script's orders consist.
-const PARTS: [(&str, &[&str]); 6] = [
+static PARTS: [(&str, &[&str]); 6] = [
     ("reader_and_writer", &["100000 0", "100000 1"]),
     (
         "reader_and_writer",
@@ -59,7 +60,7 @@ const FORMS: &str = "usage: imakern_orders [N [FIRST]]\n";
 const NO_ROWS: &str = "imakern orders 1\norders 0 outcomes 0\nend\n";
 
 // Words, the script, the status, the output and what is told.
-const WORDS: [(&str, &str, u8, &str, &str); 31] = [
+static WORDS: [(&str, &str, u8, &str, &str); 31] = [
     ("0", "opens", USAGE, "", FORMS),
     ("01", "opens", USAGE, "", FORMS),
     ("10000001", "opens", USAGE, "", FORMS),
@@ -99,16 +100,13 @@ const WORDS: [(&str, &str, u8, &str, &str); 31] = [
     ("1000 0", "cut", REFUSED, "", "line 4: no-end\n"),
 ];
 
-fn main(rt: HostRuntime) -> io::Result<()> {
-    let mut all = rows_hold(&rt)?;
-    all &= all_words_hold(&rt)?;
-    all &= all_parts_hold(&rt)?;
-    all &= faults_hold(&rt)?;
-    if all {
-        Ok(())
-    } else {
-        Err(Error::from(ErrorKind::Other))
-    }
+/// Prints a line for each case, and returns whether all hold.
+pub fn hold(rt: &HostRuntime) -> io::Result<bool> {
+    let mut all = rows_hold(rt)?;
+    all &= all_words_hold(rt)?;
+    all &= all_parts_hold(rt)?;
+    all &= faults_hold(rt)?;
+    Ok(all)
 }
 
 // Whether each script has its stored answer.
@@ -180,7 +178,7 @@ fn texts_of(rt: &HostRuntime, name: &str) -> io::Result<(String, String)> {
 
 // The text of the file of this name and ending.
 fn text_of(rt: &HostRuntime, name: &str, ending: &str) -> io::Result<String> {
-    let file = format!(in rt.alloc(); "{name}.{ending}")?;
+    let file = format!(in rt.alloc(); "orders/{name}.{ending}")?;
     fs::read_to_string(rt, file.as_str())
 }
 
@@ -188,20 +186,5 @@ fn text_of(rt: &HostRuntime, name: &str, ending: &str) -> io::Result<String> {
 fn faults_hold(rt: &HostRuntime) -> io::Result<bool> {
     let (script, whole) = texts_of(rt, "opens")?;
     let tried = faults::tried(rt.alloc(), script.as_bytes(), whole.as_bytes());
-    all_hold(rt, &tried)
-}
-
-// Prints a line for each of these, and returns whether all hold.
-fn all_hold(rt: &HostRuntime, tried: &[(&str, bool)]) -> io::Result<bool> {
-    let mut all = true;
-    for (name, holds) in tried {
-        all &= row(rt, "faults", name, *holds)?;
-    }
-    Ok(all)
-}
-
-// Prints a line, and returns whether the case holds.
-fn row(rt: &HostRuntime, family: &str, name: &str, holds: bool) -> io::Result<bool> {
-    println!(rt; "{family}: {name}{}", if holds { "" } else { ": DIFFERS" })?;
-    Ok(holds)
+    all_hold(rt, "faults", &tried)
 }

@@ -1,23 +1,23 @@
-//! Worked pages: `serve_view` on sources and sinks in memory, with the reports of `data/`.
+//! Worked pages: `serve_view` on sources and sinks in memory, with the reports of
+//! `worked_cases/data/views`.
 //!
 //! The reports are those of `examples/`, except for `hostile.report`, whose names of files and
 //! attributes would be tags if they weren't escaped, `busy.report`, and `race_swapped.report`, which
 //! is that of `examples/race.script` with the schedule `0 0 1 0 0 0 1 1 0`. `bench/pages.py` compares
 //! the copies, and writes the stored pages anew; `bench/look` shows them. Each report is also cut
-//! after each of its bytes: what is left is refused with its first bad line. A line is printed for
-//! each case, and the status is 1 if one differs.
+//! after each of its bytes: what is left is refused with its first bad line.
 #![tactic(auto)]
 
+mod answers;
 mod cuts;
-mod outcome;
 
-use crate::outcome::answer;
-use anyhow::{Context, Result, ensure};
-use std::fs;
+use crate::answers::answer;
+use std::{fs, io};
 use view_top::{NO_PLACE, REFUSED, USAGE};
+use worked_calls::row;
 
 // The names of the reports.
-const REPORTS: [&str; 23] = [
+static REPORTS: [&str; 23] = [
     "addrule",
     "appraise",
     "busy",
@@ -44,7 +44,7 @@ const REPORTS: [&str; 23] = [
 ];
 
 // The words of other pages, the reports that they read, and the names of the stored pages.
-const OTHERS: [(&str, &[&str], &str); 7] = [
+static OTHERS: [(&str, &[&str], &str); 7] = [
     ("pair", &["race", "race_swapped"], "pair_race.html"),
     ("pair", &["race", "tomtou"], "pair_race_tomtou.html"),
     ("pair", &["race", "race"], "pair_same.html"),
@@ -58,7 +58,7 @@ const OTHERS: [(&str, &[&str], &str); 7] = [
 const FORMS: &str = "usage: imakern_view page | pair | inode I [A B] | svg I [A B]\n";
 
 // Words for which there is no page of the report of `race`, the status, and what is told.
-const REFUSALS: [(&str, u8, &str); 20] = [
+static REFUSALS: [(&str, u8, &str); 20] = [
     ("", USAGE, FORMS),
     ("pages", USAGE, FORMS),
     ("page 0", USAGE, FORMS),
@@ -81,17 +81,17 @@ const REFUSALS: [(&str, u8, &str); 20] = [
     ("svg 0 0 99", NO_PLACE, "no such place\n"),
 ];
 
-fn main(rt: HostRuntime) -> Result<()> {
-    let mut all = pages_hold(&rt)?;
-    all &= cut_reports_are_refused(&rt)?;
-    all &= others_hold(&rt)?;
-    all &= refusals_hold(&rt)?;
-    ensure!(all, "not as it should be");
-    Ok(())
+/// Prints a line for each case, and returns whether all hold.
+pub fn hold(rt: &HostRuntime) -> io::Result<bool> {
+    let mut all = pages_hold(rt)?;
+    all &= cut_reports_are_refused(rt)?;
+    all &= others_hold(rt)?;
+    all &= refusals_hold(rt)?;
+    Ok(all)
 }
 
 // The page of each report.
-fn pages_hold(rt: &HostRuntime) -> Result<bool> {
+fn pages_hold(rt: &HostRuntime) -> io::Result<bool> {
     let mut all = true;
     for name in &REPORTS {
         all &= page_of_report_holds(rt, name)?;
@@ -99,13 +99,13 @@ fn pages_hold(rt: &HostRuntime) -> Result<bool> {
     Ok(all)
 }
 
-fn page_of_report_holds(rt: &HostRuntime, name: &str) -> Result<bool> {
+fn page_of_report_holds(rt: &HostRuntime, name: &str) -> io::Result<bool> {
     let text = report(rt, name)?;
     let page = format!(in rt.alloc(); "{name}.html")?;
     page_holds(rt, "page", &text, page.as_str())
 }
 
-fn cut_reports_are_refused(rt: &HostRuntime) -> Result<bool> {
+fn cut_reports_are_refused(rt: &HostRuntime) -> io::Result<bool> {
     let mut all = true;
     for name in &REPORTS {
         all &= cut_report_is_refused(rt, name)?;
@@ -113,13 +113,13 @@ fn cut_reports_are_refused(rt: &HostRuntime) -> Result<bool> {
     Ok(all)
 }
 
-fn cut_report_is_refused(rt: &HostRuntime, name: &str) -> Result<bool> {
+fn cut_report_is_refused(rt: &HostRuntime, name: &str) -> io::Result<bool> {
     let text = report(rt, name)?;
     let refused = cuts::are_refused(rt.alloc(), &text)?;
     row(rt, name, "is refused if it is cut", refused)
 }
 
-fn others_hold(rt: &HostRuntime) -> Result<bool> {
+fn others_hold(rt: &HostRuntime) -> io::Result<bool> {
     let mut all = true;
     for other in &OTHERS {
         all &= other_holds(rt, other)?;
@@ -127,17 +127,17 @@ fn others_hold(rt: &HostRuntime) -> Result<bool> {
     Ok(all)
 }
 
-fn other_holds(rt: &HostRuntime, other: &(&str, &[&str], &str)) -> Result<bool> {
+fn other_holds(rt: &HostRuntime, other: &(&str, &[&str], &str)) -> io::Result<bool> {
     let text = reports(rt, other.1)?;
     page_holds(rt, other.0, &text, other.2)
 }
 
-fn refusals_hold(rt: &HostRuntime) -> Result<bool> {
+fn refusals_hold(rt: &HostRuntime) -> io::Result<bool> {
     let text = report(rt, "race")?;
     all_refusals_hold(rt, &text)
 }
 
-fn all_refusals_hold(rt: &HostRuntime, text: &[u8]) -> Result<bool> {
+fn all_refusals_hold(rt: &HostRuntime, text: &[u8]) -> io::Result<bool> {
     let mut all = true;
     for refusal in &REFUSALS {
         all &= refusal_holds(rt, text, refusal)?;
@@ -145,13 +145,18 @@ fn all_refusals_hold(rt: &HostRuntime, text: &[u8]) -> Result<bool> {
     Ok(all)
 }
 
-fn refusal_holds(rt: &HostRuntime, text: &[u8], refusal: &(&str, u8, &str)) -> Result<bool> {
+fn refusal_holds(rt: &HostRuntime, text: &[u8], refusal: &(&str, u8, &str)) -> io::Result<bool> {
     let got = answer(rt.alloc(), refusal.0, text)?;
-    row(rt, "refused", refusal.0, got.is(refusal.1, b"", refusal.2))
+    row(
+        rt,
+        "refused",
+        refusal.0,
+        got.is((refusal.1, b"", refusal.2)),
+    )
 }
 
 // The texts of the reports of these names, one after another.
-fn reports(rt: &HostRuntime, names: &[&str]) -> Result<Vec<u8>> {
+fn reports(rt: &HostRuntime, names: &[&str]) -> io::Result<Vec<u8>> {
     let mut text = Vec::new(rt.alloc());
     for name in names {
         text.extend_from_slice(&report(rt, name)?)?;
@@ -160,25 +165,20 @@ fn reports(rt: &HostRuntime, names: &[&str]) -> Result<Vec<u8>> {
 }
 
 // The text of the report of this name.
-fn report(rt: &HostRuntime, name: &str) -> Result<Vec<u8>> {
+fn report(rt: &HostRuntime, name: &str) -> io::Result<Vec<u8>> {
     let file = format!(in rt.alloc(); "{name}.report")?;
     bytes_of(rt, file.as_str())
 }
 
 // The bytes of the file of this name.
-fn bytes_of(rt: &HostRuntime, file: &str) -> Result<Vec<u8>> {
-    fs::read(rt, file).context(file)
+fn bytes_of(rt: &HostRuntime, file: &str) -> io::Result<Vec<u8>> {
+    let path = format!(in rt.alloc(); "views/{file}")?;
+    fs::read(rt, path.as_str())
 }
 
 // Compares the page with the stored one, and prints a line.
-fn page_holds(rt: &HostRuntime, words: &str, text: &[u8], page: &str) -> Result<bool> {
+fn page_holds(rt: &HostRuntime, words: &str, text: &[u8], page: &str) -> io::Result<bool> {
     let stored = bytes_of(rt, page)?;
     let got = answer(rt.alloc(), words, text)?;
-    row(rt, words, page, got.is(0, &stored, ""))
-}
-
-// Prints a line, and returns whether the case holds.
-fn row(rt: &HostRuntime, family: &str, name: &str, holds: bool) -> Result<bool> {
-    println!(rt; "{family}: {name}{}", if holds { "" } else { ": DIFFERS" })?;
-    Ok(holds)
+    row(rt, words, page, got.is((0, &stored, "")))
 }
