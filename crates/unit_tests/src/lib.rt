@@ -3,8 +3,9 @@
 //! command line with an empty word; and that what a caller pushed on a shared list stays there.
 //!
 //! `worked_cases` calls `hold`. The tests are no `#[test]` functions, since a crate that has some is
-//! proved twice and is a program of its own. Their tables are statics: a constant that holds
-//! references is built anew wherever it is borrowed, and each part of it is a step of the proof.
+//! proved twice and is a program of its own. Their tables are statics: some constants that hold
+//! references, such as rows with an `Option` of a text, are built anew wherever they are borrowed,
+//! and each part is a step of the proof.
 #![tactic(auto)]
 
 mod checks;
