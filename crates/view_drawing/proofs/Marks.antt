@@ -17,8 +17,8 @@ use Rattle.view_page.specs.journals.declared.kinds.Mark.{Mark}
 use Rattle.view_page.specs.journals.declared.kinds.Mark.TheVariants as mark
 use Rattle.view_page.specs.journals.declared.kinds.Note.{Note}
 use Rattle.view_page.specs.journals.declared.kinds.Note.TheVariants as note
-use Rattle.view_layout.specs.declared.lanes.Lane.{Lane}
-use Rattle.view_layout.specs.declared.lanes.Seat.{Seat}
+use Rattle.view_layout.specs.lanes.declared.lanes.Lane.{Lane}
+use Rattle.view_layout.specs.lanes.declared.lanes.Seat.{Seat}
 use Rattle.view_page.specs.journals.reading.words.declared.event.Deed.{Deed}
 use Rattle.view_page.specs.journals.reading.words.declared.event.Deed.TheVariants as deed
 use Rattle.view_page.specs.journals.reading.words.declared.event.Event.{Event}
@@ -27,7 +27,7 @@ use Rattle.view_page.specs.journals.reading.words.declared.event.Span.{Span}
 use Rattle.view_layout.specs.Drawing.{Sketch, axis_items, back_items, bar_items, differing_items, end_of, execs_items, flag_items, front_items, gap_between, gaps_from, gaps_items, guide_by, guide_items, hashing_at, hashing_items, is_executed, is_place, items_of, lane_items, mark_items, middle_end, middle_items, parting_items, segments_from, shown_in, sketch_of, strip_items, strips_items, write_items}
 use Rattle.view_layout.specs.Flags.{guide_of}
 use Rattle.view_page.specs.journals.Frame.{column, margin, middle}
-use Rattle.view_layout.specs.Lanes.{seat_of}
+use Rattle.view_layout.specs.lanes.Lanes.{seat_of}
 use Rattle.view_page.specs.journals.Notes.{mark_of}
 use Rattle.view_drawing.specs.Drawing.{EachEventHasOneMark, detail_pieces, flag_pieces, fresh_of, item_pieces, items_pieces, room_for, segment_pieces, slant_pieces, words_pieces}
 use Rattle.view_page.specs.journals.State.{is_write}

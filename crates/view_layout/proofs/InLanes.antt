@@ -7,11 +7,11 @@ use Rattle.view_journal.specs.reading.words.declared.event.Deed.{Deed}
 use Rattle.view_journal.specs.reading.words.declared.event.Deed.TheVariants as deed
 use Rattle.view_journal.specs.declared.bars.Bar.{Bar}
 use Rattle.view_journal.specs.declared.column.Column.{Column}
-use Rattle.view_layout.specs.declared.lanes.Lane.{Lane}
-use Rattle.view_layout.specs.declared.lanes.Seat.{Seat}
+use Rattle.view_lanes.specs.declared.lanes.Lane.{Lane}
+use Rattle.view_lanes.specs.declared.lanes.Seat.{Seat}
 use Rattle.view_journal.specs.Bars.{lane, own}
 use Rattle.view_journal.specs.Frame.{rows}
-use Rattle.view_layout.specs.Lanes.{file_of, lane_at, lane_height, lane_seats, lanes_from, own_seat, own_seat_in, row_by, row_or, rows_from_least, seats_from, seats_of, tasks_from, tasks_of, top_in, with_actor, with_task}
+use Rattle.view_lanes.specs.Lanes.{file_of, lane_at, lane_height, lane_seats, lanes_from, own_seat, own_seat_in, row_by, row_or, rows_from_least, seats_from, seats_of, tasks_from, tasks_of, top_in, with_actor, with_task}
 use Rattle.view_layout.specs.Promises.{EventsStandInTheirLanes, HasRow}
 
 -- ---- the tasks

@@ -15,15 +15,15 @@ use Rattle.view_journal.specs.declared.items.Strip.{Strip}
 use Rattle.view_journal.specs.declared.items.Strip.TheVariants as strip
 use Rattle.view_journal.specs.declared.kinds.Freshness.{Freshness}
 use Rattle.view_journal.specs.declared.kinds.Freshness.TheVariants as fresh
-use Rattle.view_layout.specs.declared.lanes.Lane.{Lane}
-use Rattle.view_layout.specs.declared.lanes.Seat.{Seat}
+use Rattle.view_lanes.specs.declared.lanes.Lane.{Lane}
+use Rattle.view_lanes.specs.declared.lanes.Seat.{Seat}
 use Rattle.view_journal.specs.declared.walk.State.{State}
 use Rattle.view_journal.specs.declared.window.Window.{Window}
 use Rattle.view_journal.specs.Bars.{shown_bars}
 use Rattle.view_journal.specs.Columns.{columns_of}
 use Rattle.view_layout.specs.Flags.{flag_width, flags_of, guide_of}
 use Rattle.view_journal.specs.Frame.{column, margin, middle}
-use Rattle.view_layout.specs.Lanes.{bottom_from, lanes_from, lanes_top, row_top, seat_of, seats_from, tasks_of}
+use Rattle.view_lanes.specs.Lanes.{bottom_from, lanes_from, lanes_top, row_top, seat_of, seats_from, tasks_of}
 use Rattle.view_journal.specs.Notes.{mark_of}
 use Rattle.view_journal.specs.State.{is_write}
 

@@ -1,6 +1,6 @@
-pub mod Lanes
 pub mod Flags
 pub mod Drawing
 pub mod SketchView
 pub mod Promises
+pub use Rattle.view_lanes.specs as lanes
 pub use Rattle.view_journal.specs as journals

@@ -4,14 +4,14 @@ use Rattle.view_journal.specs.reading.words.declared.event.Deed.TheVariants as r
 use Rattle.view_journal.specs.reading.words.declared.event.Event.{Event as Read}
 use Rattle.view_journal.specs.declared.bars.Bar.{Bar}
 use Rattle.view_journal.specs.declared.column.Column.{Column}
-use Rattle.view_layout.specs.declared.lanes.Lane.{Lane}
+use Rattle.view_lanes.specs.declared.lanes.Lane.{Lane}
 use Rattle.view_journal.specs.declared.window.Window.{Window}
 use Rattle.view_journal.specs.Bars.{bars, lane}
 use Rattle.view_journal.specs.Columns.{columns_of}
 use Rattle.view_layout.specs.Drawing.{Sketch, sketch_by}
 use Rattle.view_layout.specs.Flags.{flag_extents, notes_of}
 use Rattle.view_journal.specs.Frame.{AreInOrder}
-use Rattle.view_layout.specs.Lanes.{row_height, row_top}
+use Rattle.view_lanes.specs.Lanes.{row_height, row_top}
 use Rattle.view_journal.specs.Windows.{AreWindows}
 
 -- a row that begins at y is a row of the lane

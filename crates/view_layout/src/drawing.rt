@@ -6,7 +6,6 @@ ghost use Rattle.view_layout.specs.SketchView.{parts_in, sketch_in};
 
 use crate::events::{push_axes, push_flag_items, push_gaps, push_hashing, push_marks};
 use crate::flags::{Flag, flags};
-use crate::lanes::{Lane, Seat, push_lanes, tasks};
 use crate::scenery::{
     push_bars, push_differing, push_guides, push_lane_items, push_parting, push_writes,
 };
@@ -14,6 +13,7 @@ use crate::strips::push_strips;
 use report_read::Event;
 use std::alloc::{AllocError as OutOfMemory, Global};
 use view_journal::{Bar, Column, Item, Window, columns, shown_bars};
+use view_lanes::{Lane, Seat, push_lanes, tasks};
 
 /// The parts of which a drawing is made.
 #[derive(Drop)]

@@ -5,11 +5,11 @@ ghost use Rattle.std.specs.List.{flat_map};
 ghost use Rattle.view_layout.specs.Drawing as spec;
 
 use crate::flags::{Flag, flag_width};
-use crate::lanes::{Lane, Seat, row_top, seat_of};
 use crate::scenery::end_of;
 use crate::strips::{middle, right_edge};
 use std::alloc::AllocError as OutOfMemory;
 use view_journal::{Area, Column, Item, Look, mark_of};
+use view_lanes::{Lane, Seat, row_top, seat_of};
 
 /// Appends the collections that go on after these events.
 pub fn push_hashing(

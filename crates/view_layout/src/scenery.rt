@@ -5,10 +5,10 @@ ghost use Rattle.std.specs.List.{flat_map, list_any};
 ghost use Rattle.view_layout.specs.Drawing as spec;
 
 use crate::flags::{Flag, guide_of};
-use crate::lanes::{Lane, Seat};
 use crate::strips::{middle, right_edge};
 use std::alloc::AllocError as OutOfMemory;
 use view_journal::{Area, Bar, Column, Guide, Item, Look, is_write};
+use view_lanes::{Lane, Seat};
 
 /// Appends the lanes and their names.
 pub fn push_lane_items(

@@ -1,7 +1,7 @@
 use Rattle.std.proofs.Common.{◌≡◌, ◌+◌, ◌++◌, drop, get_or, refl}
 use Rattle.view_journal.specs.declared.column.Column.{Column}
 use Rattle.view_layout.specs.Drawing.{gap_between, gaps_from, gaps_items}
-use Rattle.view_layout.proofs.NoItems.{no_column}
+use Rattle.view_lanes.proofs.NoItems.{no_column}
 use Rattle.list_lemmas.proofs.Remaining.{none_left, one_less}
 use Rattle.view_layout.proofs.events.push_gaps.Goals as goal
 

@@ -3,7 +3,7 @@ use Rattle.list_lemmas.proofs.Appending.{one_more}
 use Rattle.view_journal.specs.declared.items.Item.{Item}
 use Rattle.view_layout.specs.Drawing.{mark_items}
 use Rattle.view_layout.proofs.Appended.{all_there, none_yet}
-use Rattle.view_layout.proofs.NoItems.{no_column}
+use Rattle.view_lanes.proofs.NoItems.{no_column}
 use Rattle.view_layout.proofs.events.push_marks.Goals as goal
 
 pub loop-column-init : goal.loop-column-init

@@ -3,7 +3,7 @@ use Rattle.list_lemmas.proofs.Appending.{one_more}
 use Rattle.view_layout.specs.declared.flags.Noted.{Noted}
 use Rattle.view_layout.specs.Flags.{noted_at}
 use Rattle.view_layout.proofs.Appended.{all_there}
-use Rattle.view_layout.proofs.NoItems.{no_column}
+use Rattle.view_lanes.proofs.NoItems.{no_column}
 use Rattle.view_layout.proofs.flags.notes_of.Goals as goal
 
 pub loop-column-init : goal.loop-column-init

@@ -3,7 +3,7 @@ use Rattle.view_layout.specs.declared.flags.Flag.{Flag}
 use Rattle.view_layout.specs.declared.flags.Noted.{Noted}
 use Rattle.view_layout.specs.Flags.{raised}
 use Rattle.view_layout.proofs.NoItems.{no_noted}
-use Rattle.view_layout.proofs.Paired.{none_left, one_less}
+use Rattle.view_lanes.proofs.Paired.{none_left, one_less}
 use Rattle.view_layout.proofs.flags.raised.Goals as goal
 
 pub loop-at-init : goal.loop-at-init

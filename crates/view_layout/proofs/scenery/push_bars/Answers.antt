@@ -1,7 +1,7 @@
 use Rattle.list_lemmas.proofs.Appending.{one_more}
 use Rattle.view_layout.specs.Drawing.{bar_items}
 use Rattle.view_layout.proofs.Appended.{all_there, none_yet}
-use Rattle.view_layout.proofs.NoItems.{no_seat}
+use Rattle.view_lanes.proofs.NoItems.{no_seat}
 use Rattle.view_layout.proofs.scenery.push_bars.Goals as goal
 
 pub loop-seat-init : goal.loop-seat-init

@@ -1,7 +1,7 @@
 use Rattle.list_lemmas.proofs.Appending.{one_more}
 use Rattle.view_layout.specs.Drawing.{end_of, lane_items}
 use Rattle.view_layout.proofs.Appended.{all_there, none_yet}
-use Rattle.view_layout.proofs.NoItems.{no_lane}
+use Rattle.view_lanes.proofs.NoItems.{no_lane}
 use Rattle.view_layout.proofs.scenery.push_lane_items.Goals as goal
 
 pub loop-lane-init : goal.loop-lane-init

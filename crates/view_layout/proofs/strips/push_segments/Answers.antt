@@ -1,6 +1,6 @@
 use Rattle.std.proofs.Common.{[], ◌∷◌, ◌++◌, refl, sym, ap, ◌∙◌}
 use Rattle.view_journal.specs.declared.items.Item.{Item}
-use Rattle.view_layout.proofs.NoItems.{no_column}
+use Rattle.view_lanes.proofs.NoItems.{no_column}
 use Rattle.view_layout.proofs.Segments.{begins, ends, goes_on}
 use Rattle.view_layout.proofs.strips.push_segments.Goals as goal
 use Rattle.view_layout.proofs.strips.push_segments.Goals.{then-not-goes_on+in_ok-push, else-not-goes_on}

@@ -1,0 +1,3 @@
+pub mod LanesLemmas
+pub mod NoItems
+pub mod Paired

@@ -1,0 +1,2 @@
+pub mod Lanes
+pub use Rattle.view_journal.specs as journals

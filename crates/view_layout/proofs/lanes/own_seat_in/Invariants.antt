@@ -1,8 +1,0 @@
-use Rattle.std.proofs.Common.{◌≡◌, drop}
-use Rattle.view_layout.specs.Lanes.{own_seat_in}
-use Rattle.view_layout.proofs.lanes.own_seat_in.Given as goal
-
--- the seat is among the others
-abbrev pub invariant-loop-seat : goal.invariant-loop-seat
-invariant-loop-seat l =
-    own_seat_in l.file l.task (drop l.seat-index l.seats) ≡ own_seat_in l.file l.task l.seats
