@@ -1,9 +1,31 @@
 -- The tasks of lanes.
-use Rattle.std.proofs.Common.{◌≡◌, ◌≢◌, ℕ, ◌<◌, List, [], ◌∷◌, length, get_or, refl, sym, ap, ◌∙◌, arith, inl, inr}
+use Rattle.std.proofs.Common.{◌≡◌, ◌≢◌, ℕ, suc, ◌+◌, ◌<◌, ◌≤◌, List, [], ◌∷◌, length, drop, get_or, refl, sym, ap, ◌∙◌, arith, inl, inr, le-ltb, lt-ltb}
 use Rattle.std.specs.Prelude.{nat_lt}
 use Rattle.std.specs.List.{insert}
 use Rattle.std.proofs.lemmas.Bool.{cases_Bool, eq-eqb, ne_eqb}
+use Rattle.std.proofs.lemmas.List.{at_drop_all, at_drop_more}
 use Rattle.view_lanes.specs.Lanes.{first_from, with_task}
+
+-- one more task is below
+pub first_after : (task : ℕ) (ts : List ℕ) (i all : ℕ) → i < length ts → get_or ts i 0 < task
+    → i + first_from task (drop i ts) ≡ all → i + 1 + first_from task (drop (i + 1) ts) ≡ all
+first_after task ts i all within below h =
+    let on : first_from task (get_or ts i 0 ∷ drop (i + 1) ts)
+    ≡ suc (first_from task (drop (i + 1) ts)) = rw (lt-ltb (get_or ts i 0) task below) refl in
+    omega (arith, at_drop_more (first_from task) ts i 0 within ∙ on, h)
+
+-- the next task isn't below
+pub first_here : (task : ℕ) (ts : List ℕ) (i all : ℕ) → i < length ts → task ≤ get_or ts i 0
+    → i + first_from task (drop i ts) ≡ all → i ≡ all
+first_here task ts i all within above h =
+    let on : first_from task (get_or ts i 0 ∷ drop (i + 1) ts) ≡ 0
+    = rw (le-ltb (get_or ts i 0) task above) refl in
+    omega (arith, at_drop_more (first_from task) ts i 0 within ∙ on, h)
+
+-- all tasks are below
+pub first_past : (task : ℕ) (ts : List ℕ) (i all : ℕ) → length ts ≤ i
+    → i + first_from task (drop i ts) ≡ all → i ≡ all
+first_past task ts i all past h = omega (arith, at_drop_all (first_from task) ts i past, h)
 
 -- a task that is there
 pub with_task_old : (task : ℕ) (ts : List ℕ) (d : ℕ) → first_from task ts < length ts
