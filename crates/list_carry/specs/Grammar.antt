@@ -19,9 +19,9 @@ use Rattle.script_text.specs.script_lines.declared.fault.LineErr.TheVariants as 
 use Rattle.script_text.specs.steps.hashes.declared.algo.Algo.TheVariants.{Sha256}
 use Rattle.list_carry.specs.Draft.{Draft, as_list, start, with_list}
 use Rattle.list_carry.specs.Heads.{head_of, is_over, rank, stands}
-use Rattle.list_carry.specs.Reading.{cause_word, load_of}
+use Rattle.carry_form.specs.Reading.{cause_word, load_of}
 use Rattle.list_carry.specs.Text.{CarryValue}
-use Rattle.list_carry.specs.declared.causes.CarryCause.{CarryCause}
+use Rattle.carry_form.specs.declared.causes.CarryCause.{CarryCause}
 use Rattle.list_carry.specs.declared.head.CarryHead.{CarryHead}
 use Rattle.list_carry.specs.declared.head.CarryHead.TheVariants as head
 use Rattle.list_carry.specs.declared.line_cause.CarryLine.{CarryLine}

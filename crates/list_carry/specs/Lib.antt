@@ -1,13 +1,9 @@
-pub mod Cut
-pub mod Contents
-pub mod Entries
-pub mod Form
-pub mod Reading
-pub mod Books
-pub mod Resumed
 pub mod Text
 pub mod TextInside
 pub mod Draft
 pub mod DraftInside
 pub mod Heads
 pub mod Grammar
+pub use Rattle.carry_form.specs.Books
+pub use Rattle.carry_form.specs.Form
+pub use Rattle.carry_form.specs as forms

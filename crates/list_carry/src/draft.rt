@@ -4,9 +4,9 @@ ghost use Rattle.std.specs.Prelude.{◌≡◌};
 ghost use Rattle.list_carry.specs.Draft.{start};
 ghost use Rattle.list_carry.specs.Heads.{has_boot, is_over, stands};
 
-use crate::carried::Carried;
 use crate::head::CarryHead;
 use crate::text::CarryText;
+use carry_form::Carried;
 use hash_algos::{Algo, Digest};
 use script_text::in_order;
 use std::alloc::Global;

@@ -4,10 +4,10 @@ ghost use Rattle.std.specs.Prelude.{◌≡◌, ◌≤◌, length, IfOk, OnOk};
 ghost use Rattle.std.specs.List.{fold};
 ghost use Rattle.measure_book.specs.Replay.{banks_of};
 ghost use Rattle.ima_templates.specs.Same.{add};
-ghost use Rattle.list_carry.specs.Books.{GoesOn, carried_on};
-ghost use Rattle.list_carry.specs.Form.{IsCarried};
+ghost use Rattle.carry_form.specs.Books.{GoesOn, carried_on};
+ghost use Rattle.carry_form.specs.Form.{IsCarried};
 
-use crate::carried::{Carried, resume, start};
+use carry_form::{Carried, resume, start};
 use ima_templates::Entry;
 use measure_book::registers::Banks;
 use measure_book::{Book, Pass};

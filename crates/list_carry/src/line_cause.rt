@@ -3,7 +3,7 @@
 ghost use Rattle.std.specs.Prelude.{◌≡◌, Some};
 ghost use Rattle.list_carry.specs.Grammar.{line_text};
 
-use crate::causes::CarryCause;
+use carry_form::CarryCause;
 use script_words::{Fault, LineCause, LineErr, ScriptErr};
 use std::fmt::{self, Display};
 

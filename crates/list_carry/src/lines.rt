@@ -7,13 +7,11 @@ ghost use Rattle.script_text.specs.events.forms.Paths.{is_path};
 ghost use Rattle.script_text.specs.script_lines.Gives.{LineGives, LineMakes};
 ghost use Rattle.list_carry.specs.Draft.{as_list, with_list};
 ghost use Rattle.list_carry.specs.Grammar.{by_form, counted, form_in, form_of, room_for, with_boot, with_carried, with_carried_list, with_digest, with_end, with_file, with_listed, with_version};
-ghost use Rattle.list_carry.specs.Reading.{load_of};
+ghost use Rattle.carry_form.specs.Reading.{load_of};
 
-use crate::carried::Carried;
-use crate::causes::CarryErr;
 use crate::draft::Draft;
 use crate::line_cause::{CarryLine, CarryLineErr};
-use crate::reading::load;
+use carry_form::{Carried, CarryErr, load};
 use hash_algos::{Algo, Digest};
 use script_text::{sum_of, two};
 use script_words::{LineCause, LineErr, value_of};

@@ -3,7 +3,7 @@
 ghost use Rattle.std.specs.Prelude.{◌≡◌};
 ghost use Rattle.list_carry.specs.Text.{HavePaths};
 
-use crate::carried::Carried;
+use carry_form::Carried;
 use hash_algos::{Algo, Digest};
 use std::marker::Model;
 use xattr_store::Bytes;

@@ -4,11 +4,11 @@ ghost use Rattle.std.specs.Prelude.{◌≡◌, [], ◌∷◌, ◌++◌, ◌<◌,
 ghost use Rattle.std.specs.Vec.{vec_len};
 ghost use Rattle.byteorder.specs.Endian.{little_bytes};
 ghost use Rattle.ima_templates.specs.Data.{sized, template_data};
-ghost use Rattle.list_carry.specs.Form.{IsCarried, carried_form, flag, form_length, header, record_head, record_of, records_of, template_number};
-ghost use Rattle.list_carry.specs.Reading.{load_of};
+ghost use Rattle.carry_form.specs.Form.{IsCarried, carried_form, flag, form_length, header, record_head, record_of, records_of, template_number};
+ghost use Rattle.carry_form.specs.Reading.{load_of};
 
-use crate::reading::{HEADER_LENGTH, MARK, VERSION};
 use byteorder::{ByteOrder, LittleEndian};
+use carry_form::{HEADER_LENGTH, MARK, VERSION};
 use ima_templates::Entry;
 use inode_meta::Template;
 use std::alloc::AllocError as OutOfMemory;
@@ -76,7 +76,7 @@ fn append_records(list: &[Entry], out: &mut Vec<u8>) -> Result<(), OutOfMemory>
     Ok(())
 }
 
-#[tactic(auto, unfolding(crate::specs::Form::record_of))]
+#[tactic(auto, unfolding(carry_form::specs::Form::record_of))]
 fn append_record(e: &Entry, out: &mut Vec<u8>) -> Result<(), OutOfMemory>
     ensures ok { OnOk result (out.new.items ≡ out.old.items ++ record_of e.now) }
     ensures kept { take (vec_len out.old) out.new.items ≡ out.old.items }

@@ -2,7 +2,7 @@
 use Rattle.std.proofs.Common.{◌≡◌}
 use Rattle.std.specs.List.{fold}
 use Rattle.ima_templates.specs.Same.{add}
-use Rattle.list_carry.specs.Books.{GoesOn}
+use Rattle.carry_form.specs.Books.{GoesOn}
 use Rattle.list_carry.proofs.going_on.add_each.Given as goal
 
 abbrev pub invariant-loop-e : goal.invariant-loop-e

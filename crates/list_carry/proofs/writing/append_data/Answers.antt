@@ -2,7 +2,7 @@
 use Rattle.std.proofs.Common.{arith}
 use Rattle.ima_templates.specs.Data.{sized, template_data}
 use Rattle.list_lemmas.proofs.Kept.{kept_append, kept_before}
-use Rattle.list_carry.proofs.FormLemmas.{appended_sized}
+use Rattle.list_carry.proofs.WritingLemmas.{appended_sized}
 use Rattle.list_carry.proofs.writing.append_data.Goals as goal
 
 pub returns-clause-ok : goal.returns-clause-ok

@@ -2,9 +2,9 @@
 use Rattle.std.proofs.Common.{ℕ, List, ◌++◌, arith}
 use Rattle.std.proofs.lemmas.Result.{on_ok_weaker}
 use Rattle.byteorder.specs.Endian.{little_bytes}
-use Rattle.list_carry.specs.Form.{mark}
+use Rattle.carry_form.specs.Form.{mark}
 use Rattle.list_lemmas.proofs.Kept.{appended_both, kept_by_last}
-use Rattle.list_carry.proofs.FormLemmas.{appended_header}
+use Rattle.list_carry.proofs.WritingLemmas.{appended_header}
 use Rattle.list_carry.proofs.writing.append_header.Goals as goal
 
 pub returns-clause-ok : goal.returns-clause-ok

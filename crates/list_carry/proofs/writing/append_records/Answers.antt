@@ -2,7 +2,7 @@
 use Rattle.std.proofs.Common.{List, ◌++◌, ap, ◌∙◌, arith, take_all}
 use Rattle.std.proofs.lemmas.Result.{err_from_is_err_and}
 use Rattle.ima_templates.specs.declared.entry.Entry.{Entry}
-use Rattle.list_carry.specs.Form.{record_of, records_of}
+use Rattle.carry_form.specs.Form.{record_of, records_of}
 use Rattle.list_lemmas.proofs.Appending.{one_item}
 use Rattle.list_lemmas.proofs.Kept.{kept_append, kept_before}
 use Rattle.list_carry.proofs.writing.append_records.Goals as goal

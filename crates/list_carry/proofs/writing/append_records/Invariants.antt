@@ -1,6 +1,6 @@
 -- The records of the entries passed so far were appended.
 use Rattle.std.proofs.Common.{◌≡◌, ◌++◌, take}
-use Rattle.list_carry.specs.Form.{records_of}
+use Rattle.carry_form.specs.Form.{records_of}
 use Rattle.list_carry.proofs.writing.append_records.Given as goal
 
 abbrev pub invariant-loop-e : goal.invariant-loop-e

@@ -1,6 +1,6 @@
 -- One more record.
 use Rattle.std.proofs.Common.{◌≡◌, ◌+◌, arith}
-use Rattle.list_carry.proofs.FormLemmas.{form_length-more, sum_is}
+use Rattle.list_carry.proofs.WritingLemmas.{form_length-more, sum_is}
 use Rattle.list_carry.proofs.writing.form_length.Goals as goal
 
 pub loop-e-preserved : goal.loop-e-preserved

@@ -1,6 +1,6 @@
 -- A form that was appended has a length that eight bytes hold, so the list is loaded from it.
 use Rattle.std.proofs.lemmas.Result.{on_ok_weaker}
-use Rattle.list_carry.proofs.FormLemmas.{load_of-form}
+use Rattle.carry_form.proofs.FormLemmas.{load_of-form}
 use Rattle.list_carry.proofs.writing.save.Goals as goal
 
 pub returns-then-is_err-clause-loads : goal.returns-then-is_err-clause-loads
