@@ -3,7 +3,8 @@
 //! boot's list, [`carry_on`] adds the entries of this boot, and [`save`] writes the whole list's
 //! carried form (the kernel's `ima_dump_measurement_list`) for the boot after it.
 //!
-//! The form is defined and read in `carry_form`, whose public items are items of this crate too.
+//! The form is defined and read in `carry_form`. Its [`load`] and [`resume`], with their types, are
+//! items of this crate too.
 #![tactic(auto)]
 
 mod draft;
