@@ -12,49 +12,30 @@ use std::alloc::{AllocError as OutOfMemory, Global};
 
 // ---- order_counts
 
-pub fn order_new(alloc: Global) -> counts::Order {
-    counts::Order::new(alloc)
+pub fn order_new(alloc: Global, order: counts::Order) -> (counts::Order, Vec<u32>) {
+    (counts::Order::new(alloc), order.into_vec())
 }
 
-pub fn order_as_slice(order: &counts::Order) -> &[u32] {
-    order.as_slice()
-}
-
-pub fn order_copy(alloc: Global, order: &counts::Order) -> Result<counts::Order, OutOfMemory> {
-    order.copy(alloc)
-}
-
-pub fn order_into_vec(order: counts::Order) -> Vec<u32> {
-    order.into_vec()
+pub fn order_read<'a>(order: &'a counts::Order, other: &counts::Order) -> (&'a [u32], bool) {
+    (order.as_slice(), order.comes_before(other))
 }
 
 pub fn order_then(
     alloc: Global,
     order: &counts::Order,
     task: u32,
-) -> Result<counts::Order, OutOfMemory> {
-    order.then(alloc, task)
-}
-
-pub fn comes_before(a: &counts::Order, b: &counts::Order) -> bool {
-    a.comes_before(b)
+) -> [Result<counts::Order, OutOfMemory>; 2] {
+    [order.copy(alloc), order.then(alloc, task)]
 }
 
 pub fn counted_then(
     alloc: Global,
     counted: &counts::Counted,
     task: u32,
-) -> Result<counts::Counted, OutOfMemory> {
-    counted.then(alloc, task)
-}
-
-pub fn counted_copy(
-    alloc: Global,
-    counted: &counts::Counted,
-) -> Result<counts::Counted, OutOfMemory> {
-    let _order: &counts::Order = &counted.order;
-    let _count: u128 = counted.count;
-    counted.copy(alloc)
+) -> [Result<counts::Counted, OutOfMemory>; 2] {
+    let _: counts::Order = counted.order;
+    let _: u128 = counted.count;
+    [counted.copy(alloc), counted.then(alloc, task)]
 }
 
 pub fn counted_join(
@@ -85,33 +66,20 @@ pub fn listed_of(
     outcomes::listed_of(alloc, list, inodes, task, call)
 }
 
-pub fn made_of(ended: &run_model::Ended) -> outcomes::Made {
-    outcomes::made_of(ended)
+pub fn ended_read(
+    alloc: Global,
+    ended: &run_model::Ended,
+) -> (outcomes::Made, Result<xattr_store::Bytes, OutOfMemory>) {
+    (outcomes::made_of(ended), outcomes::outcome_of(alloc, ended))
 }
 
 pub fn is_same(a: outcomes::Made, b: outcomes::Made) -> bool {
-    let _made: (u128, u128) = (a.events, a.replies);
+    let _: u128 = a.events;
+    let _: u128 = a.replies;
     a.is_same(b)
 }
 
-pub fn outcome_of(
-    alloc: Global,
-    ended: &run_model::Ended,
-) -> Result<xattr_store::Bytes, OutOfMemory> {
-    outcomes::outcome_of(alloc, ended)
-}
-
-// ---- order_sights
-
-pub fn mark(sight: &sights::Sight) -> u64 {
-    sight.mark()
-}
-
-pub fn are_alike(alloc: Global, a: &sights::Sight, b: &sights::Sight) -> Result<bool, OutOfMemory> {
-    sights::are_alike(alloc, a, b)
-}
-
-// ---- order_runs
+// ---- order_sights and order_runs
 
 pub fn read(alloc: Global, text: xattr_store::Bytes) -> Result<runs::Play, script_text::ScriptErr>
     requires { length text < 2 ^ 32 - 1 }
@@ -128,10 +96,20 @@ pub fn sight<G: ima_io::Gate>(
     play: &runs::Play,
     turns: &counts::Order,
     gate: &G,
-) -> Result<sights::Sight, OutOfMemory>
+    a: &sights::Sight,
+    b: &sights::Sight,
+) -> (
+    Result<sights::Sight, OutOfMemory>,
+    u64,
+    Result<bool, OutOfMemory>,
+)
     requires { IsSchedule play.now turns.now }
 {
-    play.sight(alloc, turns, gate)
+    (
+        play.sight(alloc, turns, gate),
+        a.mark(),
+        sights::are_alike(alloc, a, b),
+    )
 }
 
 pub fn rows_of<G: ima_io::Gate>(
@@ -142,15 +120,15 @@ pub fn rows_of<G: ima_io::Gate>(
 ) -> Result<Vec<runs::Row>, runs::Stopped>
     requires { length part.now.first.items ≤ most_turns }
 {
-    let _play: &runs::Play = &part.play;
-    let _first: &Vec<u32> = &part.first;
+    let _: runs::Play = part.play;
+    let _: Vec<u32> = part.first;
     runs::rows_of(alloc, part, most, gate)
 }
 
 pub fn rows(row: &runs::Row, stopped: runs::Stopped) {
-    let _counted: &counts::Counted = &row.counted;
-    let _outcome: &xattr_store::Bytes = &row.outcome;
-    let _most: u32 = runs::MOST_TURNS;
+    let _: counts::Counted = row.counted;
+    let _: xattr_store::Bytes = row.outcome;
+    let _: u32 = runs::MOST_TURNS;
     match stopped {
         runs::Stopped::TooMany | runs::Stopped::OutOfMemory => {}
     }

@@ -7,19 +7,19 @@ use std::sync::Wait;
 use std::thread::Threads;
 
 pub fn text_fields(text: &buffer_measure::BufferText, caller: &buffer_measure::BufferCaller) {
-    let _hash: hash_algos::Algo = text.hash;
-    let _rules: &policy_text::Policy = &text.rules;
-    let _callers: &Vec<buffer_measure::BufferCaller> = &text.callers;
-    let _threads: u32 = text.threads;
-    let _cred: &inode_meta::Cred = &caller.cred;
+    let _: hash_algos::Algo = text.hash;
+    let _: policy_text::Policy = text.rules;
+    let _: Vec<buffer_measure::BufferCaller> = text.callers;
+    let _: u32 = text.threads;
+    let _: inode_meta::Cred = caller.cred;
     // "A text of buffers keeps the word of a value that is far shorter than its bytes"
-    let _lines: &Vec<(xattr_store::Bytes, buffer_measure::BufferBytes)> = &caller.lines;
+    let _: Vec<(xattr_store::Bytes, buffer_measure::BufferBytes)> = caller.lines;
 }
 
 pub fn run_fields(run: &buffer_measure::BufferRun, answer: buffer_measure::Answer) {
-    let _list: &Vec<ima_templates::Entry> = &run.list;
-    let _banks: &pcr_bank::Banks = &run.banks;
-    let _answers: &Vec<buffer_measure::Answers> = &run.answers;
+    let _: Vec<ima_templates::Entry> = run.list;
+    let _: pcr_bank::Banks = run.banks;
+    let _: Vec<buffer_measure::Answers> = run.answers;
     match answer {
         buffer_measure::Answer::Skipped
         | buffer_measure::Answer::Added(_)
@@ -43,22 +43,16 @@ pub fn wanted(p: &policy_text::Policy, cred: &inode_meta::Cred) -> Option<u8> {
 }
 
 // "Only calls that take a lock or start threads take the runtime, before the allocator"
-pub fn measure_all<G: ima_io::Gate + Sync, R: Threads + Wait + Sync>(
-    rt: &R,
-    alloc: Global,
-    t: &buffer_measure::BufferText,
-    gate: &G,
-) -> Result<buffer_measure::BufferRun, buffer_measure::OutOfMemory> {
-    buffer_measure::measure_all(rt, alloc, t, gate)
-}
-
-pub fn measure_owned<G: ima_io::Gate + Sync, R: Threads + Wait + Sync>(
+pub fn measure<G: ima_io::Gate + Sync, R: Threads + Wait + Sync>(
     rt: &R,
     alloc: Global,
     t: buffer_measure::BufferText,
     gate: &G,
-) -> Result<buffer_measure::BufferRun, buffer_measure::OutOfMemory> {
-    buffer_measure::measure_owned(rt, alloc, t, gate)
+) -> [Result<buffer_measure::BufferRun, buffer_measure::OutOfMemory>; 2] {
+    [
+        buffer_measure::measure_all(rt, alloc, &t, gate),
+        buffer_measure::measure_owned(rt, alloc, t, gate),
+    ]
 }
 
 pub fn print(

@@ -2,34 +2,9 @@
 
 // ---- call_steps
 
+// Bytes, names and values are boxed, and so is an appended rule: "Large and rare parts of an event
+// or a call are in memory of their own".
 pub fn calls(call: &call_steps::Call) {
-    match call {
-        call_steps::Call::Open { .. }
-        | call_steps::Call::Read { .. }
-        | call_steps::Call::Write { .. }
-        | call_steps::Call::Ftruncate { fd: _, len: _ }
-        | call_steps::Call::Close { fd: _ }
-        | call_steps::Call::Mmap { .. }
-        | call_steps::Call::Mread { .. }
-        | call_steps::Call::Munmap { map: _ }
-        | call_steps::Call::Exec { run: _, inode: _ }
-        | call_steps::Call::Endexec { run: _ }
-        | call_steps::Call::SetAttr { .. }
-        | call_steps::Call::SetMeta {
-            inode: _,
-            change: _,
-        }
-        | call_steps::Call::Post { sem: _ }
-        | call_steps::Call::Wait { sem: _ }
-        | call_steps::Call::AddRule { rule: _ }
-        | call_steps::Call::Module { inode: _ }
-        | call_steps::Call::Firmware { inode: _ } => {}
-    }
-}
-
-// The fields of the calls that have three or more. Bytes, names and values are boxed, and so is an
-// appended rule: "Large and rare parts of an event or a call are in memory of their own".
-pub fn call_fields(call: &call_steps::Call) {
     match call {
         call_steps::Call::Open {
             fd: _,
@@ -47,6 +22,8 @@ pub fn call_fields(call: &call_steps::Call) {
             from: _,
             bytes: _,
         }
+        | call_steps::Call::Ftruncate { fd: _, len: _ }
+        | call_steps::Call::Close { fd: _ }
         | call_steps::Call::Mmap {
             map: _,
             fd: _,
@@ -57,12 +34,23 @@ pub fn call_fields(call: &call_steps::Call) {
             from: _,
             len: _,
         }
+        | call_steps::Call::Munmap { map: _ }
+        | call_steps::Call::Exec { run: _, inode: _ }
+        | call_steps::Call::Endexec { run: _ }
         | call_steps::Call::SetAttr {
             inode: _,
             name: _,
             value: _,
-        } => {}
-        _ => {}
+        }
+        | call_steps::Call::SetMeta {
+            inode: _,
+            change: _,
+        }
+        | call_steps::Call::Post { sem: _ }
+        | call_steps::Call::Wait { sem: _ }
+        | call_steps::Call::AddRule { rule: _ }
+        | call_steps::Call::Module { inode: _ }
+        | call_steps::Call::Firmware { inode: _ } => {}
     }
 }
 
@@ -104,26 +92,24 @@ pub fn step(ask: call_steps::Ask, hand: &call_steps::Hand, held: &call_steps::He
         | call_steps::Ask::CloseFinish
         | call_steps::Ask::Plain => {}
     }
-    let _hand: (Option<call_steps::Held>, bool, bool) = (hand.held, hand.free, hand.admin);
-    let _held: (u32, u64, inode_events::How, bool) = (held.inode, held.file, held.how, held.last);
+    let _: Option<call_steps::Held> = hand.held;
+    let _: bool = hand.free;
+    let _: bool = hand.admin;
+    let _: u32 = held.inode;
+    let _: u64 = held.file;
+    let _: inode_events::How = held.how;
+    let _: bool = held.last;
 }
 
-pub fn plan_start(
+pub fn plan(
     call: &call_steps::Call,
     hand: call_steps::Hand,
     mode: inode_meta::Mode,
-) -> call_steps::Plan {
-    call_steps::Plan::start(call, hand, mode)
-}
-
-pub fn plan_next(plan: &call_steps::Plan) -> call_steps::Ask {
-    call_steps::Plan::next(plan)
-}
-
-pub fn plan_told(
-    plan: &mut call_steps::Plan,
+    begun: &mut call_steps::Plan,
     t: &inode_events::Told,
     action: Option<&policy_text::Action>,
-) -> Option<call_steps::Reply> {
-    call_steps::Plan::told(plan, t, action)
+) -> (call_steps::Plan, call_steps::Ask, Option<call_steps::Reply>) {
+    let ask = call_steps::Plan::next(begun);
+    let reply = call_steps::Plan::told(begun, t, action);
+    (call_steps::Plan::start(call, hand, mode), ask, reply)
 }

@@ -9,17 +9,19 @@ use std::thread::Threads;
 // ---- script_text
 
 pub fn script_fields(script: &script_text::Script) {
-    let _hash: (hash_algos::Algo, inode_meta::Template) = (script.hash, script.template);
-    let _mode: inode_meta::Mode = script.mode;
-    let _boot: &hash_algos::Digest = &script.boot;
-    let _key: &Option<xattr_store::Bytes> = &script.key;
-    let _added: &Vec<xattr_store::Bytes> = &script.added;
-    let _evm: (bool, u8) = (script.locked, script.format);
-    let _supers: &Vec<policy_text::Super> = &script.supers;
-    let _files: &Vec<script_text::FileBlock> = &script.files;
-    let _rules: &policy_text::Policy = &script.rules;
-    let _tasks: &Vec<script_text::TaskBlock> = &script.tasks;
-    let _ending: &script_text::Ending = &script.ending;
+    let _: hash_algos::Algo = script.hash;
+    let _: inode_meta::Template = script.template;
+    let _: inode_meta::Mode = script.mode;
+    let _: hash_algos::Digest = script.boot;
+    let _: Option<xattr_store::Bytes> = script.key;
+    let _: Vec<xattr_store::Bytes> = script.added;
+    let _: bool = script.locked;
+    let _: u8 = script.format;
+    let _: Vec<policy_text::Super> = script.supers;
+    let _: Vec<script_text::FileBlock> = script.files;
+    let _: policy_text::Policy = script.rules;
+    let _: Vec<script_text::TaskBlock> = script.tasks;
+    let _: script_text::Ending = script.ending;
 }
 
 pub fn blocks(
@@ -27,10 +29,10 @@ pub fn blocks(
     list: &script_text::ListText,
     ending: &script_text::Ending,
 ) {
-    let _path: &xattr_store::Bytes = &file.path;
-    let _fs: u32 = file.fs;
-    let _image: &inode_events::Image = &file.image;
-    let _list: &Vec<(xattr_store::Bytes, xattr_store::Bytes)> = &list.files;
+    let _: xattr_store::Bytes = file.path;
+    let _: u32 = file.fs;
+    let _: inode_events::Image = file.image;
+    let _: Vec<(xattr_store::Bytes, xattr_store::Bytes)> = list.files;
     match ending {
         script_text::Ending::Schedule(_)
         | script_text::Ending::Rounds
@@ -39,7 +41,7 @@ pub fn blocks(
 }
 
 pub fn errors(e: script_text::ScriptErr, fault: script_text::Fault) {
-    let _fault: (u32, script_text::LineCause) = (fault.line, fault.cause);
+    let _: u32 = fault.line;
     match e {
         script_text::ScriptErr::Refused(_) | script_text::ScriptErr::OutOfMemory => {}
     }
@@ -90,17 +92,16 @@ pub fn print(alloc: Global, s: &script_text::Script) -> Result<Vec<u8>, script_p
 
 // ---- report_text
 
-pub fn report(alloc: Global, e: &task_core::Ended) -> Result<Vec<u8>, report_text::OutOfMemory> {
-    report_text::report(alloc, e)
-}
-
-pub fn summary(
+pub fn reports(
     alloc: Global,
     number: u32,
     script: usize,
     e: &task_core::Ended,
-) -> Result<Vec<u8>, report_text::OutOfMemory> {
-    report_text::summary(alloc, number, script, e)
+) -> [Result<Vec<u8>, report_text::OutOfMemory>; 2] {
+    [
+        report_text::report(alloc, e),
+        report_text::summary(alloc, number, script, e),
+    ]
 }
 
 // ---- load_gen

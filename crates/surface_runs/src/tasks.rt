@@ -19,17 +19,18 @@ pub fn records(
     task: &task_core::EndedTask,
     turn: task_core::Turn,
 ) {
-    let _inodes: &Vec<grow_list::Pass<inode_events::Event>> = &passes.inodes;
-    let _sems: &grow_list::Pass<inode_events::Event> = &passes.sems;
-    let _book: &grow_list::Pass<ima_templates::Entry> = &passes.book;
-    let _rules: &grow_list::Pass<policy_cell::RuleEntry> = &passes.rules;
-    let _ended: &Vec<inode_cell::EndedInode> = &ended.inodes;
-    let _list: &Vec<ima_templates::Entry> = &ended.list;
-    let _banks: &pcr_bank::Banks = &ended.banks;
-    let _tasks: &Vec<task_core::EndedTask> = &ended.tasks;
-    let _run: (bool, inode_meta::Template) = (ended.stuck, ended.template);
-    let _done: bool = task.done;
-    let _replies: &Vec<call_steps::Reply> = &task.replies;
+    let _: Vec<grow_list::Pass<inode_events::Event>> = passes.inodes;
+    let _: grow_list::Pass<inode_events::Event> = passes.sems;
+    let _: grow_list::Pass<ima_templates::Entry> = passes.book;
+    let _: grow_list::Pass<policy_cell::RuleEntry> = passes.rules;
+    let _: Vec<inode_cell::EndedInode> = ended.inodes;
+    let _: Vec<ima_templates::Entry> = ended.list;
+    let _: pcr_bank::Banks = ended.banks;
+    let _: Vec<task_core::EndedTask> = ended.tasks;
+    let _: bool = ended.stuck;
+    let _: inode_meta::Template = ended.template;
+    let _: bool = task.done;
+    let _: Vec<call_steps::Reply> = task.replies;
     match turn {
         task_core::Turn::Moved | task_core::Turn::Blocked | task_core::Turn::Done => {}
     }
@@ -53,30 +54,26 @@ pub fn world_start(
     task_core::World::start(alloc, settings, boot, inodes, supers, places, rules, tasks)
 }
 
-pub fn world_share<N: task_core::Name>(
+pub fn world_share<N: task_core::Name, R: Wait, F: FnOnce()>(
     world: task_core::World,
-) -> Result<task_core::Live<N>, task_core::OutOfMemory>
-    requires { world.consts ≡ N.consts }
-{
-    task_core::World::share::<N>(world)
-}
-
-pub fn live_back<N: task_core::Name>(
-    live: task_core::Live<N>,
-) -> Result<task_core::World, task_core::OutOfMemory> {
-    task_core::Live::back(live)
-}
-
-pub fn live_hold<N: task_core::Name, R: Wait, F: FnOnce()>(
-    live: &task_core::Live<N>,
+    back: task_core::Live<N>,
+    held: &task_core::Live<N>,
     rt: &R,
     inode: u32,
     f: F,
+) -> (
+    Result<task_core::Live<N>, task_core::OutOfMemory>,
+    Result<task_core::World, task_core::OutOfMemory>,
 )
+    requires consts { world.consts ≡ N.consts }
     requires inode { inode < length N.consts.each_inode }
     requires call { F.IsAlwaysCallable f }
 {
-    task_core::Live::hold(live, rt, inode, f)
+    task_core::Live::hold(held, rt, inode, f);
+    (
+        task_core::World::share::<N>(world),
+        task_core::Live::back(back),
+    )
 }
 
 pub fn task_new(
@@ -85,12 +82,15 @@ pub fn task_new(
     cred: inode_meta::Cred,
     program: Vec<call_steps::Call>,
     passes: task_core::Passes,
-) -> Result<task_core::Task, task_core::OutOfMemory> {
-    task_core::Task::new(alloc, number, cred, program, passes)
-}
-
-pub fn task_who(task: &task_core::Task) -> Option<inode_meta::Who> {
-    task_core::Task::who(task)
+    other: &task_core::Task,
+) -> (
+    Result<task_core::Task, task_core::OutOfMemory>,
+    Option<inode_meta::Who>,
+) {
+    (
+        task_core::Task::new(alloc, number, cred, program, passes),
+        task_core::Task::who(other),
+    )
 }
 
 pub fn task_look(task: &mut task_core::Task, world: &mut task_core::World)

@@ -33,8 +33,15 @@ pub fn attrs_new(alloc: Global) -> xattr_store::Attrs {
     xattr_store::Attrs::new(alloc)
 }
 
-pub fn attrs_get<'a>(attrs: &'a xattr_store::Attrs, name: &[u8]) -> Option<&'a [u8]> {
-    xattr_store::Attrs::get(attrs, name)
+pub fn attrs_read<'a>(
+    attrs: &'a xattr_store::Attrs,
+    name: &[u8],
+    k: usize,
+) -> (Option<&'a [u8]>, Option<(&'a [u8], &'a [u8])>) {
+    (
+        xattr_store::Attrs::get(attrs, name),
+        xattr_store::Attrs::at(attrs, k),
+    )
 }
 
 pub fn attrs_set(
@@ -58,17 +65,23 @@ pub fn attrs_copy(
     xattr_store::Attrs::copy(attrs)
 }
 
-pub fn attrs_at(attrs: &xattr_store::Attrs, k: usize) -> Option<(&[u8], &[u8])> {
-    xattr_store::Attrs::at(attrs, k)
-}
-
 // ---- inode_meta
 
 pub fn records(meta: &inode_meta::Meta, cred: &inode_meta::Cred, who: &inode_meta::Who) {
-    let _meta: (u64, u32, u32, u32) = (meta.ino, meta.generation, meta.uid, meta.gid);
-    let _mode: (u16, u128) = (meta.mode, meta.place);
-    let _cred: (u32, u32, u32, u32, bool) = (cred.uid, cred.euid, cred.gid, cred.egid, cred.admin);
-    let _who: (u32, u32, u32) = (who.task, who.call, who.step);
+    let _: u64 = meta.ino;
+    let _: u32 = meta.generation;
+    let _: u32 = meta.uid;
+    let _: u32 = meta.gid;
+    let _: u16 = meta.mode;
+    let _: u128 = meta.place;
+    let _: u32 = cred.uid;
+    let _: u32 = cred.euid;
+    let _: u32 = cred.gid;
+    let _: u32 = cred.egid;
+    let _: bool = cred.admin;
+    let _: u32 = who.task;
+    let _: u32 = who.call;
+    let _: u32 = who.step;
 }
 
 pub fn states(
@@ -119,34 +132,28 @@ pub fn measures(template: inode_meta::Template, bank: inode_meta::Bank, algo: ha
     }
 }
 
-pub fn evm_status_word(status: inode_meta::EvmStatus) -> &'static str {
-    inode_meta::EvmStatus::word(status)
-}
-
-pub fn mode_word(mode: inode_meta::Mode) -> &'static str {
-    inode_meta::Mode::word(mode)
-}
-
-pub fn template_word(template: inode_meta::Template) -> &'static str {
-    inode_meta::Template::word(template)
-}
-
-pub fn bank_word(bank: inode_meta::Bank) -> &'static str {
-    inode_meta::Bank::word(bank)
+pub fn words(
+    status: inode_meta::EvmStatus,
+    mode: inode_meta::Mode,
+    template: inode_meta::Template,
+    bank: inode_meta::Bank,
+) -> [&'static str; 4] {
+    [
+        inode_meta::EvmStatus::word(status),
+        inode_meta::Mode::word(mode),
+        inode_meta::Template::word(template),
+        inode_meta::Bank::word(bank),
+    ]
 }
 
 // ---- hash_algos
 
-pub fn algo_id(algo: hash_algos::Algo) -> u8 {
-    hash_algos::Algo::id(algo)
-}
-
-pub fn algo_name(algo: hash_algos::Algo) -> &'static str {
-    hash_algos::Algo::name(algo)
-}
-
-pub fn algo_size(algo: hash_algos::Algo) -> usize {
-    hash_algos::Algo::size(algo)
+pub fn algo_read(algo: hash_algos::Algo) -> (u8, &'static str, usize) {
+    (
+        hash_algos::Algo::id(algo),
+        hash_algos::Algo::name(algo),
+        hash_algos::Algo::size(algo),
+    )
 }
 
 pub fn algo_by_name(name: &[u8]) -> Option<hash_algos::Algo> {
@@ -157,54 +164,52 @@ pub fn algo_by_id(id: u8) -> Option<hash_algos::Algo> {
     hash_algos::by_id(id)
 }
 
-pub fn algo_set_new() -> hash_algos::AlgoSet {
-    hash_algos::AlgoSet::new()
-}
-
-pub fn algo_set_add(algos: &mut hash_algos::AlgoSet, a: hash_algos::Algo) {
-    hash_algos::AlgoSet::add(algos, a)
-}
-
-pub fn algo_set_has(algos: &hash_algos::AlgoSet, a: hash_algos::Algo) -> bool {
-    hash_algos::AlgoSet::has(algos, a)
+pub fn algo_set(
+    algos: &mut hash_algos::AlgoSet,
+    a: hash_algos::Algo,
+) -> (hash_algos::AlgoSet, bool) {
+    let has = hash_algos::AlgoSet::has(algos, a);
+    hash_algos::AlgoSet::add(algos, a);
+    (hash_algos::AlgoSet::new(), has)
 }
 
 pub fn digest_from_slice(a: hash_algos::Algo, b: &[u8]) -> Option<hash_algos::Digest> {
     hash_algos::Digest::from_slice(a, b)
 }
 
-pub fn digest_algo(digest: &hash_algos::Digest) -> hash_algos::Algo {
-    hash_algos::Digest::algo(digest)
+pub fn digest_read(digest: &hash_algos::Digest) -> (hash_algos::Algo, &[u8]) {
+    (
+        hash_algos::Digest::algo(digest),
+        hash_algos::Digest::as_slice(digest),
+    )
 }
 
-pub fn digest_as_slice(digest: &hash_algos::Digest) -> &[u8] {
-    hash_algos::Digest::as_slice(digest)
-}
-
-pub fn running_new(a: hash_algos::Algo) -> hash_algos::Running {
-    hash_algos::Running::new(a)
-}
-
-pub fn running_feed(running: &mut hash_algos::Running, b: &[u8]) {
-    hash_algos::Running::feed(running, b)
-}
-
-pub fn running_finish(running: hash_algos::Running) -> hash_algos::Digest {
-    hash_algos::Running::finish(running)
+pub fn running(
+    a: hash_algos::Algo,
+    fed: &mut hash_algos::Running,
+    b: &[u8],
+    ended: hash_algos::Running,
+) -> (hash_algos::Running, hash_algos::Digest) {
+    hash_algos::Running::feed(fed, b);
+    (
+        hash_algos::Running::new(a),
+        hash_algos::Running::finish(ended),
+    )
 }
 
 // ---- hmac_core
 
-pub fn hmac_new(key: &[u8]) -> hmac_core::HmacSha1 {
-    hmac_core::HmacSha1::new(key)
-}
-
-pub fn hmac_feed(hmac: &mut hmac_core::HmacSha1, b: &[u8]) {
-    hmac_core::HmacSha1::feed(hmac, b)
-}
-
-pub fn hmac_finish(hmac: hmac_core::HmacSha1) -> [u8; 20] {
-    hmac_core::HmacSha1::finish(hmac)
+pub fn hmac(
+    key: &[u8],
+    fed: &mut hmac_core::HmacSha1,
+    b: &[u8],
+    ended: hmac_core::HmacSha1,
+) -> (hmac_core::HmacSha1, [u8; 20]) {
+    hmac_core::HmacSha1::feed(fed, b);
+    (
+        hmac_core::HmacSha1::new(key),
+        hmac_core::HmacSha1::finish(ended),
+    )
 }
 
 // ---- inode_pages
@@ -221,8 +226,11 @@ pub fn content_from_slice(
     inode_pages::Content::from_slice(alloc, b)
 }
 
-pub fn content_len(content: &inode_pages::Content) -> u64 {
-    inode_pages::Content::len(content)
+pub fn content_pages(content: &inode_pages::Content, k: u32) -> (u64, &[u8]) {
+    (
+        inode_pages::Content::len(content),
+        inode_pages::Content::chunk(content, k),
+    )
 }
 
 pub fn content_read(content: &inode_pages::Content, from: u64, buf: &mut [u8]) -> usize {
@@ -246,10 +254,6 @@ pub fn content_resize(
     len: u64,
 ) -> Result<(), inode_pages::PageErr> {
     inode_pages::Content::resize(content, alloc, len)
-}
-
-pub fn content_chunk(content: &inode_pages::Content, k: u32) -> &[u8] {
-    inode_pages::Content::chunk(content, k)
 }
 
 pub fn content_page(

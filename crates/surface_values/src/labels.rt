@@ -62,12 +62,16 @@ pub fn evm_copy(evm: &evm_verify::Evm) -> Result<evm_verify::Evm, evm_verify::Ou
     evm_verify::Evm::copy(evm)
 }
 
-pub fn evm_status(
+pub fn evm_read(
     evm: &evm_verify::Evm,
+    name: &[u8],
     attrs: &xattr_store::Attrs,
     meta: &inode_meta::Meta,
-) -> inode_meta::EvmStatus {
-    evm_verify::Evm::status(evm, attrs, meta)
+) -> (inode_meta::EvmStatus, bool) {
+    (
+        evm_verify::Evm::status(evm, attrs, meta),
+        evm_verify::Evm::protects(evm, name),
+    )
 }
 
 pub fn evm_renew(
@@ -78,26 +82,17 @@ pub fn evm_renew(
     evm_verify::Evm::renew(evm, attrs, meta)
 }
 
-pub fn evm_may_change(
+pub fn evm_may(
     evm: &evm_verify::Evm,
     name: &[u8],
     attrs: &xattr_store::Attrs,
     meta: &inode_meta::Meta,
     new: bool,
-) -> Result<(), inode_meta::EvmStatus> {
-    evm_verify::Evm::may_change(evm, name, attrs, meta, new)
-}
-
-pub fn evm_may_set_meta(
-    evm: &evm_verify::Evm,
-    attrs: &xattr_store::Attrs,
-    meta: &inode_meta::Meta,
-) -> Result<(), inode_meta::EvmStatus> {
-    evm_verify::Evm::may_set_meta(evm, attrs, meta)
-}
-
-pub fn evm_protects(evm: &evm_verify::Evm, name: &[u8]) -> bool {
-    evm_verify::Evm::protects(evm, name)
+) -> [Result<(), inode_meta::EvmStatus>; 2] {
+    [
+        evm_verify::Evm::may_change(evm, name, attrs, meta, new),
+        evm_verify::Evm::may_set_meta(evm, attrs, meta),
+    ]
 }
 
 // ---- ima_appraise

@@ -1,10 +1,11 @@
-//! A caller of each public call on plain values, hashes, labels and policies, and on the outside,
-//! written as a user of one crate would write it.
+//! A caller of each public call on plain values, hashes, labels and policies, on the outside, and
+//! on shared lists and the measurement list, written as a user of one crate would write it.
 //!
-//! Each function makes one call, under its public name. Its parameters and its result have the
-//! types of the call, and its `requires` are the conditions that a caller has to know, so its proof
-//! is that these are enough. What the call ensures isn't repeated. Types without a call are read
-//! field by field and variant by variant.
+//! Each function makes one call, under its public name, or several of one type of which none helps
+//! another: each only reads, or has a value of its own. Its parameters and its result have the
+//! types of the calls, and its `requires` are the conditions that a caller has to know, so its
+//! proof is that these are enough. What a call ensures isn't repeated. Types without a call are
+//! read field by field and variant by variant.
 //!
 //! Nothing calls these functions: they no longer compile or are no longer proved if a public name,
 //! form or condition changes. If a form isn't the plainest one, a comment quotes the entry of
@@ -13,5 +14,6 @@
 
 pub mod base;
 pub mod labels;
+pub mod lists;
 pub mod outside;
 pub mod policies;

@@ -14,8 +14,20 @@ pub fn source_read<S: ima_io::Source>(
     ima_io::Source::read(source, buf)
 }
 
+pub fn read_all<S: ima_io::Source>(
+    alloc: Global,
+    source: &mut S,
+    limit: usize,
+) -> Result<Vec<u8>, ima_io::ReadErr> {
+    ima_io::read_all(alloc, source, limit)
+}
+
 pub fn sink_write<K: ima_io::Sink>(sink: &mut K, piece: &[u8]) -> Result<usize, ima_io::Failed> {
     ima_io::Sink::write(sink, piece)
+}
+
+pub fn write_all<K: ima_io::Sink>(sink: &mut K, piece: &[u8]) -> Result<(), ima_io::Failed> {
+    ima_io::write_all(sink, piece)
 }
 
 pub fn gate_pass<G: ima_io::Gate>(gate: &G, task: u32, call: u32, step: u32) {
@@ -47,28 +59,15 @@ pub fn mem_sink_taken(sink: &ima_io::MemSink) -> &[u8] {
     ima_io::MemSink::taken(sink)
 }
 
-pub fn std_source_new<R: Read>(reader: R) -> ima_io::StdSource<R> {
-    ima_io::StdSource::new(reader)
-}
-
-pub fn std_sink_new<W: Write>(writer: W) -> ima_io::StdSink<W> {
-    ima_io::StdSink::new(writer)
-}
-
-pub fn read_all<S: ima_io::Source>(
-    alloc: Global,
-    source: &mut S,
-    limit: usize,
-) -> Result<Vec<u8>, ima_io::ReadErr> {
-    ima_io::read_all(alloc, source, limit)
+pub fn std_streams<R: Read, W: Write>(
+    reader: R,
+    writer: W,
+) -> (ima_io::StdSource<R>, ima_io::StdSink<W>) {
+    (ima_io::StdSource::new(reader), ima_io::StdSink::new(writer))
 }
 
 pub fn read_err(e: ima_io::ReadErr) {
     match e {
         ima_io::ReadErr::Fault | ima_io::ReadErr::TooLong | ima_io::ReadErr::OutOfMemory => {}
     }
-}
-
-pub fn write_all<K: ima_io::Sink>(sink: &mut K, piece: &[u8]) -> Result<(), ima_io::Failed> {
-    ima_io::write_all(sink, piece)
 }

@@ -11,15 +11,24 @@ pub type RulePass = grow_list::Pass<policy_cell::RuleEntry>;
 // ---- policy_text
 
 pub fn rule_fields(rule: &policy_text::Rule) {
-    let _act: (policy_text::Act, Option<policy_text::Func>) = (rule.act, rule.func);
-    let _mask: Option<policy_text::MaskTest> = rule.mask;
-    let _place: (Option<u64>, Option<u128>) = (rule.fsmagic, rule.fsuuid);
-    let _name: &Option<xattr_store::Bytes> = &rule.fsname;
-    let _users: [Option<policy_text::IdTest>; 3] = [rule.uid, rule.euid, rule.fowner];
-    let _groups: [Option<policy_text::IdTest>; 3] = [rule.gid, rule.egid, rule.fgroup];
-    let _need: (inode_meta::Need, bool) = (rule.need, rule.blacklist);
-    let _algos: (Option<hash_algos::AlgoSet>, bool) = (rule.algos, rule.directio);
-    let _entry: (Option<u8>, Option<inode_meta::Template>) = (rule.pcr, rule.template);
+    let _: policy_text::Act = rule.act;
+    let _: Option<policy_text::Func> = rule.func;
+    let _: Option<policy_text::MaskTest> = rule.mask;
+    let _: Option<u64> = rule.fsmagic;
+    let _: Option<u128> = rule.fsuuid;
+    let _: Option<xattr_store::Bytes> = rule.fsname;
+    let _: Option<policy_text::IdTest> = rule.uid;
+    let _: Option<policy_text::IdTest> = rule.euid;
+    let _: Option<policy_text::IdTest> = rule.fowner;
+    let _: Option<policy_text::IdTest> = rule.gid;
+    let _: Option<policy_text::IdTest> = rule.egid;
+    let _: Option<policy_text::IdTest> = rule.fgroup;
+    let _: inode_meta::Need = rule.need;
+    let _: bool = rule.blacklist;
+    let _: Option<hash_algos::AlgoSet> = rule.algos;
+    let _: bool = rule.directio;
+    let _: Option<u8> = rule.pcr;
+    let _: Option<inode_meta::Template> = rule.template;
 }
 
 pub fn rule_parts(
@@ -68,29 +77,30 @@ pub fn records(
     action: &policy_text::Action,
     entry: &policy_cell::RuleEntry,
 ) {
-    let _place: (u64, u128, bool) = (place.magic, place.uuid, place.versions);
-    let _name: &xattr_store::Bytes = &place.name;
-    let _access: (policy_text::Func, u8) = (access.func, access.mask);
-    let _owner: (u32, u32) = (access.owner, access.group);
-    let _cred: &inode_meta::Cred = access.cred;
-    let _super: &policy_text::Super = access.place;
-    let _measure: (bool, u8, Option<inode_meta::Template>) = (
-        action.measure,
-        action.pcr,
-        action.template,
-    );
-    let _appraise: (bool, inode_meta::Need, Option<hash_algos::AlgoSet>) = (
-        action.appraise,
-        action.need,
-        action.algos,
-    );
-    let _others: (bool, bool) = (action.audit, action.hash);
-    let _who: inode_meta::Who = entry.who;
-    let _rule: &policy_text::Rule = &entry.rule;
+    let _: u64 = place.magic;
+    let _: u128 = place.uuid;
+    let _: bool = place.versions;
+    let _: xattr_store::Bytes = place.name;
+    let _: policy_text::Func = access.func;
+    let _: u8 = access.mask;
+    let _: u32 = access.owner;
+    let _: u32 = access.group;
+    let _: &inode_meta::Cred = access.cred;
+    let _: &policy_text::Super = access.place;
+    let _: bool = action.measure;
+    let _: u8 = action.pcr;
+    let _: Option<inode_meta::Template> = action.template;
+    let _: bool = action.appraise;
+    let _: inode_meta::Need = action.need;
+    let _: Option<hash_algos::AlgoSet> = action.algos;
+    let _: bool = action.audit;
+    let _: bool = action.hash;
+    let _: inode_meta::Who = entry.who;
+    let _: policy_text::Rule = entry.rule;
 }
 
 pub fn errors(e: policy_text::PolicyErr, fault: policy_text::Fault) {
-    let _fault: (u32, policy_text::RuleCause) = (fault.line, fault.cause);
+    let _: u32 = fault.line;
     match e {
         policy_text::PolicyErr::Refused(_) | policy_text::PolicyErr::OutOfMemory => {}
     }
@@ -167,12 +177,14 @@ pub fn index_start(
     rule_match::Index::start(alloc, p)
 }
 
-pub fn index_rules(index: &rule_match::Index) -> &[policy_text::Rule] {
-    rule_match::Index::rules(index)
-}
-
-pub fn index_decide(index: &rule_match::Index, a: &policy_text::Access<'_>) -> policy_text::Action {
-    rule_match::Index::decide(index, a)
+pub fn index_read<'a>(
+    index: &'a rule_match::Index,
+    a: &policy_text::Access<'_>,
+) -> (&'a [policy_text::Rule], policy_text::Action) {
+    (
+        rule_match::Index::rules(index),
+        rule_match::Index::decide(index, a),
+    )
 }
 
 pub fn index_append(

@@ -3,20 +3,20 @@
 ghost use Rattle.std.specs.Prelude.{◌-◌, ◌<◌, ◌≤◌, ◌^◌, length};
 ghost use Rattle.list_carry.specs.Form.{IsCarried};
 
-use crate::lists::EntryPass;
+use crate::inode::EntryPass;
 use script_text::LineCause;
 use std::alloc::Global;
 
 // ---- list_carry
 
 pub fn types(fault: list_carry::CarryFault, err: list_carry::CarryErr) {
-    let _line: u32 = fault.line;
+    let _: u32 = fault.line;
     match fault.cause {
         list_carry::CarryLine::Line(cause) => {
-            let _cause: LineCause = cause;
+            let _: LineCause = cause;
         }
         list_carry::CarryLine::Carried(cause) => {
-            let _cause: list_carry::CarryCause = cause;
+            let _: list_carry::CarryCause = cause;
         }
     }
     match err {

@@ -1,12 +1,12 @@
 // Lists that callers share, registers, entries and their forms, and the measurement list.
 
 ghost use Rattle.std.specs.Prelude.{◌≡◌, ◌≢◌, ◌<◌, ◌≤◌, length};
-ghost use Rattle.inode_events.specs.hashes.declared.algo.Algo.TheVariants.{Sha1};
-ghost use Rattle.inode_events.specs.meta.declared.measurement.Template.TheVariants.{ImaBuf};
-ghost use Rattle.inode_events.specs.templates.Path.{IsMeasuredPath};
-ghost use Rattle.inode_events.specs.templates.xattrs.Attrs.{most_value};
 ghost use Rattle.grow_list.specs.Others.{HasOthers};
 ghost use Rattle.grow_list.specs.Shown.{HasEach};
+ghost use Rattle.hash_algos.specs.declared.algo.Algo.TheVariants.{Sha1};
+ghost use Rattle.ima_templates.specs.Path.{IsMeasuredPath};
+ghost use Rattle.inode_meta.specs.declared.measurement.Template.TheVariants.{ImaBuf};
+ghost use Rattle.xattr_store.specs.Attrs.{most_value};
 
 use std::alloc::Global;
 
@@ -43,12 +43,8 @@ pub fn grow_look<E>(list: &mut grow_list::Grow<E>, pass: &mut grow_list::Pass<E>
     grow_list::Grow::look(list, pass)
 }
 
-pub fn grow_len<E>(list: &grow_list::Grow<E>) -> u64 {
-    grow_list::Grow::len(list)
-}
-
-pub fn grow_at<E>(list: &grow_list::Grow<E>, place: u64) -> Option<&E> {
-    grow_list::Grow::at(list, place)
+pub fn grow_read<E>(list: &grow_list::Grow<E>, place: u64) -> (u64, Option<&E>) {
+    (grow_list::Grow::len(list), grow_list::Grow::at(list, place))
 }
 
 pub fn grow_close<E>(list: grow_list::Grow<E>, passes: Vec<grow_list::Pass<E>>) -> Vec<E>
@@ -63,14 +59,16 @@ pub fn pass_number<E>(pass: &grow_list::Pass<E>) -> u32 {
 
 // ---- pcr_bank
 
-pub fn banks_new() -> pcr_bank::Banks {
-    pcr_bank::Banks::new()
-}
-
-pub fn banks_extend(banks: &mut pcr_bank::Banks, pcr: u8, sha1: &[u8; 20], sha256: &[u8; 32])
+pub fn banks(
+    banks: &mut pcr_bank::Banks,
+    pcr: u8,
+    sha1: &[u8; 20],
+    sha256: &[u8; 32],
+) -> pcr_bank::Banks
     requires { pcr < 24 }
 {
-    pcr_bank::Banks::extend(banks, pcr, sha1, sha256)
+    pcr_bank::Banks::extend(banks, pcr, sha1, sha256);
+    pcr_bank::Banks::new()
 }
 
 pub fn banks_value(banks: &pcr_bank::Banks, bank: pcr_bank::Bank, pcr: u8) -> &[u8]
@@ -83,10 +81,12 @@ pub fn banks_value(banks: &pcr_bank::Banks, bank: pcr_bank::Bank, pcr: u8) -> &[
 
 // "An entry holds its two template digests": it is read by its fields, and built by a call.
 pub fn types(e: &ima_templates::Entry, placed: ima_templates::Placed) {
-    let _fields: (u8, inode_meta::Template, bool) = (e.pcr, e.template, e.violation);
-    let _digest: &hash_algos::Digest = &e.digest;
-    let _name: &xattr_store::Bytes = &e.name;
-    let _sig: &xattr_store::Bytes = &e.sig;
+    let _: u8 = e.pcr;
+    let _: inode_meta::Template = e.template;
+    let _: bool = e.violation;
+    let _: hash_algos::Digest = e.digest;
+    let _: xattr_store::Bytes = e.name;
+    let _: xattr_store::Bytes = e.sig;
     match placed {
         ima_templates::Placed::Added(_) | ima_templates::Placed::Already(_) => {}
     }
@@ -121,12 +121,15 @@ pub fn entry_violation(
     ima_templates::violation(alloc, template, default, path)
 }
 
-pub fn entry_sum(e: &ima_templates::Entry, bank: inode_meta::Bank) -> hash_algos::Digest {
-    ima_templates::Entry::sum(e, bank)
-}
-
-pub fn entry_same(e: &ima_templates::Entry, other: &ima_templates::Entry) -> bool {
-    ima_templates::Entry::same(e, other)
+pub fn entry_read(
+    e: &ima_templates::Entry,
+    bank: inode_meta::Bank,
+    other: &ima_templates::Entry,
+) -> (hash_algos::Digest, bool) {
+    (
+        ima_templates::Entry::sum(e, bank),
+        ima_templates::Entry::same(e, other),
+    )
 }
 
 // ---- list_format

@@ -23,8 +23,17 @@ pub type EntryPass = grow_list::Pass<ima_templates::Entry>;
 
 // ---- inode_hashing
 
-pub fn hashing_begin(a: hash_algos::Algo) -> inode_hashing::Hashing {
-    inode_hashing::Hashing::begin(a)
+pub fn hashing(
+    a: hash_algos::Algo,
+    ended: inode_hashing::Hashing,
+) -> (
+    inode_hashing::Hashing,
+    (hash_algos::Digest, hash_algos::Digest),
+) {
+    (
+        inode_hashing::Hashing::begin(a),
+        inode_hashing::Hashing::finish(ended),
+    )
 }
 
 pub fn hashing_next(hashing: &mut inode_hashing::Hashing, b: &[u8]) {
@@ -33,10 +42,6 @@ pub fn hashing_next(hashing: &mut inode_hashing::Hashing, b: &[u8]) {
 
 pub fn hashing_next_page(hashing: &mut inode_hashing::Hashing, p: &inode_pages::Page) {
     inode_hashing::Hashing::next_page(hashing, p)
-}
-
-pub fn hashing_finish(hashing: inode_hashing::Hashing) -> (hash_algos::Digest, hash_algos::Digest) {
-    inode_hashing::Hashing::finish(hashing)
 }
 
 // ---- inode_cell

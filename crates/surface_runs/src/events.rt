@@ -23,20 +23,25 @@ pub fn records(
     image: &inode_events::Image,
     ended: &inode_cell::EndedInode,
 ) {
-    let _who: inode_meta::Who = e.who;
-    let _deed: &inode_events::Deed = &e.deed;
-    let _told: &inode_events::Told = &e.told;
-    let _placed: Option<ima_templates::Placed> = grant.placed;
-    let _verdict: Option<label_values::Verdict> = grant.verdict;
-    let _grant: (bool, bool) = (grant.admitted, grant.labelled);
-    let _image: (bool, inode_meta::Meta, bool) = (image.present, image.meta, image.versions);
-    let _content: &inode_pages::Content = &image.content;
-    let _labels: &xattr_store::Attrs = &image.attrs;
-    let _path: &xattr_store::Bytes = &ended.path;
-    let _journal: &Vec<inode_events::Event> = &ended.journal;
-    let _force: &Option<hash_algos::Digest> = &ended.force;
-    let _attrs: &xattr_store::Attrs = &ended.attrs;
-    let _counts: [u64; 3] = [ended.writers, ended.readers, ended.execs];
+    let _: inode_meta::Who = e.who;
+    let _: inode_events::Deed = e.deed;
+    let _: inode_events::Told = e.told;
+    let _: Option<ima_templates::Placed> = grant.placed;
+    let _: Option<label_values::Verdict> = grant.verdict;
+    let _: bool = grant.admitted;
+    let _: bool = grant.labelled;
+    let _: bool = image.present;
+    let _: inode_meta::Meta = image.meta;
+    let _: bool = image.versions;
+    let _: inode_pages::Content = image.content;
+    let _: xattr_store::Attrs = image.attrs;
+    let _: xattr_store::Bytes = ended.path;
+    let _: Vec<inode_events::Event> = ended.journal;
+    let _: Option<hash_algos::Digest> = ended.force;
+    let _: xattr_store::Attrs = ended.attrs;
+    let _: u64 = ended.writers;
+    let _: u64 = ended.readers;
+    let _: u64 = ended.execs;
 }
 
 // Names, values and bytes are boxed: "Large and rare parts of an event or a call are in memory of
@@ -136,9 +141,10 @@ pub fn settings_copy(
 // "The outcome of a read, and its reply, has room for SHA-256 and no longer digest, and counts
 // bytes in 32 bits"
 pub fn answers(checked: &inode_cell::Checked, got: &inode_cell::Got) {
-    let _checked: (policy_text::Action, inode_cell::Found) = (checked.action, checked.found);
-    let _n: u32 = got.n;
-    let _digest: &hash_algos::Sha256Digest = &got.digest;
+    let _: policy_text::Action = checked.action;
+    let _: inode_cell::Found = checked.found;
+    let _: u32 = got.n;
+    let _: hash_algos::Sha256Digest = got.digest;
     match checked.found {
         inode_cell::Found::Quiet
         | inode_cell::Found::OpenWriters(_)
@@ -151,6 +157,8 @@ pub fn file_answers(
     taken: inode_cell::Taken,
     piece: inode_cell::Piece,
     closed: inode_cell::CloseTaken,
+    wrote: inode_cell::Wrote,
+    set: inode_cell::Set,
 ) {
     match counted {
         inode_cell::Counted::Held(_)
@@ -169,9 +177,6 @@ pub fn file_answers(
         | inode_cell::CloseTaken::Dropped
         | inode_cell::CloseTaken::Blocked => {}
     }
-}
-
-pub fn change_answers(wrote: inode_cell::Wrote, set: inode_cell::Set) {
     match wrote {
         inode_cell::Wrote::Done | inode_cell::Wrote::TooBig => {}
     }
