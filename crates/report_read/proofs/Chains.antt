@@ -2,7 +2,7 @@
 use Rattle.std.proofs.Common.{◌≡◌, ℕ, suc, ◌+◌, List, [], ◌∷◌, ◌++◌, length, Some, refl, sym, ap, ◌∙◌, append_assoc, arith}
 use Rattle.std.proofs.lemmas.List.{append-nil}
 use Rattle.report_text.specs.Words.{Line}
-use Rattle.report_read.specs.Draft.{Draft}
+use Rattle.report_draft.specs.Draft.{Draft}
 use Rattle.report_read.proofs.Fold.{end_of, end_of-append, fold, fold-append, step}
 
 pub fold_one : (begin : ℕ) (d t : Draft) (ws : Line) → step begin d ws ≡ Some t

@@ -21,7 +21,7 @@ use Rattle.report_text.specs.model.events.meta.Words.{template_word}
 use Rattle.report_text.specs.model.events.templates.Digests.{template_digest}
 use Rattle.report_text.specs.model.events.templates.declared.entry.Entry.{Entry}
 use Rattle.report_words.specs.Forms.{is_digest, is_hex, is_low_hex, is_named_digest, is_wide_pcr}
-use Rattle.report_read.specs.Lines.{after_fields, after_padded_pcr, is_entry, template_in}
+use Rattle.report_lines.specs.Lines.{after_fields, after_padded_pcr, is_entry, template_in}
 use Rattle.report_read.specs.ReadBack.{IsShownEntry}
 
 -- ---- hexadecimal

@@ -27,7 +27,7 @@ use Rattle.report_text.specs.model.events.forms.Words.{is_line}
 use Rattle.report_text.proofs.CleanWords.{events_kept}
 use Rattle.report_text.proofs.about_forms.Tells.{words_back}
 use Rattle.report_words.specs.declared.event.Span.{Span}
-use Rattle.report_read.specs.Lines.{event_of, event_with}
+use Rattle.report_lines.specs.Lines.{event_of, event_with}
 use Rattle.report_words.specs.Outcomes.{outcome_of}
 use Rattle.report_read.specs.ReadBack.{EventLinesAreRead, IsSmallDeed, IsSmallTold}
 use Rattle.report_read.specs.Short.{short_deed, short_told}

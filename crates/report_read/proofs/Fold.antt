@@ -4,7 +4,7 @@ use Rattle.std.specs.List.{join_with_byte}
 use Rattle.report_text.specs.Words.{Line}
 use Rattle.report_text.specs.model.events.forms.Options.{◌>>=◌}
 use Rattle.report_words.specs.declared.event.Span.{Span}
-use Rattle.report_read.specs.Draft.{Draft, with_words}
+use Rattle.report_draft.specs.Draft.{Draft, with_words}
 
 -- ---- the fold
 

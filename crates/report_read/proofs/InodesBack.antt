@@ -17,14 +17,14 @@ use Rattle.report_text.specs.model.events.hashes.declared.algo.Algo.TheVariants 
 use Rattle.report_text.specs.model.events.hashes.declared.digest.Digest.{Digest}
 use Rattle.report_text.specs.model.events.meta.declared.measurement.Template.{Template}
 use Rattle.report_text.specs.model.events.templates.xattrs.Attrs.{Pair}
-use Rattle.report_read.specs.declared.draft.Stage.{Stage}
-use Rattle.report_read.specs.declared.draft.Stage.TheVariants as stage
+use Rattle.report_draft.specs.declared.draft.Stage.{Stage}
+use Rattle.report_draft.specs.declared.draft.Stage.TheVariants as stage
 use Rattle.report_words.specs.declared.event.Span.{Span}
-use Rattle.report_read.specs.declared.report.InodeHead.{InodeHead}
-use Rattle.report_read.specs.Draft.{Draft, events_left, names_left, with_words}
-use Rattle.report_read.specs.Lines.{head_at, inode_of, is_attr, is_force, is_force_word}
+use Rattle.report_lines.specs.declared.report.InodeHead.{InodeHead}
+use Rattle.report_draft.specs.Draft.{Draft, events_left, names_left, with_words}
+use Rattle.report_lines.specs.Lines.{head_at, inode_of, is_attr, is_force, is_force_word}
 use Rattle.report_read.specs.ReadBack.{IsShownAttr, IsShownForce, IsShownInode}
-use Rattle.report_read.specs.Report.{InodeValue}
+use Rattle.report_lines.specs.Report.{InodeValue}
 use Rattle.report_read.proofs.Chains.{AllGood, blocks, chain_whole, fold_one, length-values, length_push, values, values_push}
 use Rattle.report_read.proofs.EntriesBack.{digest_back, hex_back}
 use Rattle.report_read.proofs.Fold.{end_of, fold, fold-append, fold_step, line_span, next, step}

@@ -19,11 +19,11 @@ use Rattle.report_text.specs.model.events.declared.told.Told.{Told}
 use Rattle.report_text.specs.model.events.declared.told.Told.TheVariants as told
 use Rattle.report_text.specs.model.events.meta.declared.measurement.Template.{Template}
 use Rattle.report_text.specs.model.events.meta.declared.step.Who.{Who}
-use Rattle.report_read.specs.declared.draft.Stage.TheVariants as stage
+use Rattle.report_draft.specs.declared.draft.Stage.TheVariants as stage
 use Rattle.report_words.specs.declared.event.Event.{Event}
 use Rattle.report_words.specs.declared.event.Span.{Span}
-use Rattle.report_read.specs.Draft.{Draft, entry_fits, entry_of, events_left, file_fits, file_of, fits, inode_closed, is_held, opens, with_words}
-use Rattle.report_read.specs.Lines.{event_of, event_with}
+use Rattle.report_draft.specs.Draft.{Draft, entry_fits, entry_of, events_left, file_fits, file_of, fits, inode_closed, is_held, opens, with_words}
+use Rattle.report_lines.specs.Lines.{event_of, event_with}
 use Rattle.report_read.specs.ReadBack.{IsSmall, NamesEntry}
 use Rattle.report_read.specs.Short.{short, short_deed, short_told}
 use Rattle.report_read.proofs.Chains.{AllGood, blocks, chain_whole, fold_one, length-values, length_push, values, values_push}

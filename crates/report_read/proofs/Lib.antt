@@ -14,7 +14,6 @@ pub mod InodesBack
 pub mod RulesBack
 pub mod TextsBack
 pub mod ReportBack
-pub mod DraftBounds
 pub mod TextBounds
 mod Examples
 mod ReadableExamples

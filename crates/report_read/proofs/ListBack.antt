@@ -11,13 +11,13 @@ use Rattle.report_text.specs.model.events.meta.declared.measurement.Bank.TheVari
 use Rattle.report_text.specs.model.registers.Banks.{register}
 use Rattle.report_text.specs.model.registers.declared.banks.Banks.{Banks}
 use Rattle.report_text.specs.model.events.templates.declared.entry.Entry.{Entry}
-use Rattle.report_read.specs.declared.draft.Stage.{Stage}
-use Rattle.report_read.specs.declared.draft.Stage.TheVariants as stage
+use Rattle.report_draft.specs.declared.draft.Stage.{Stage}
+use Rattle.report_draft.specs.declared.draft.Stage.TheVariants as stage
 use Rattle.report_words.specs.declared.event.Span.{Span}
-use Rattle.report_read.specs.declared.report.RunEnd.{RunEnd}
-use Rattle.report_read.specs.declared.report.RunEnd.TheVariants as run
-use Rattle.report_read.specs.Draft.{Draft, entries_left, rises, start, with_words}
-use Rattle.report_read.specs.Lines.{is_entry}
+use Rattle.report_lines.specs.declared.report.RunEnd.{RunEnd}
+use Rattle.report_lines.specs.declared.report.RunEnd.TheVariants as run
+use Rattle.report_draft.specs.Draft.{Draft, entries_left, rises, start, with_words}
+use Rattle.report_lines.specs.Lines.{is_entry}
 use Rattle.report_read.specs.ReadBack.{AreRegisters, IsShownEntry}
 use Rattle.report_read.proofs.Chains.{AllGood, blocks, chain_whole, fold_one, values, values_push}
 use Rattle.report_read.proofs.EntriesBack.{digest_back, entry_back}

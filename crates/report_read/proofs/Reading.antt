@@ -5,10 +5,10 @@ use Rattle.report_text.specs.model.events.forms.Lines.{◌>>=◌, lines}
 use Rattle.report_text.specs.model.events.forms.Tokens.{is_filled}
 use Rattle.report_words.specs.script_lines.Line.{cut}
 use Rattle.report_words.proofs.about_lines.Reading.{some_line}
-use Rattle.report_read.specs.declared.fault.LineErr.{LineErr}
-use Rattle.report_read.specs.declared.fault.LineErr.TheVariants as err
-use Rattle.report_read.specs.Draft.{Draft}
-use Rattle.report_read.specs.Makes.{Fails, LineFails, err_at}
+use Rattle.report_draft.specs.declared.fault.LineErr.{LineErr}
+use Rattle.report_draft.specs.declared.fault.LineErr.TheVariants as err
+use Rattle.report_draft.specs.Draft.{Draft}
+use Rattle.report_draft.specs.Makes.{Fails, LineFails, err_at}
 use Rattle.report_read.specs.Read.{read_from, with_line}
 
 -- ---- lengths of the parts

@@ -8,13 +8,13 @@ use Rattle.report_text.specs.model.EndedValue.{EndedValue as Ended}
 use Rattle.report_text.specs.model.events.forms.Lines.{◌>>=◌}
 use Rattle.report_text.specs.model.events.forms.Words.{text_of}
 use Rattle.report_text.proofs.Whole.{report_kept}
-use Rattle.report_read.specs.declared.draft.Stage.{Stage}
-use Rattle.report_read.specs.declared.draft.Stage.TheVariants as stage
-use Rattle.report_read.specs.Draft as draft
-use Rattle.report_read.specs.Draft.{Draft, report_closed, start}
+use Rattle.report_draft.specs.declared.draft.Stage.{Stage}
+use Rattle.report_draft.specs.declared.draft.Stage.TheVariants as stage
+use Rattle.report_draft.specs.Draft as draft
+use Rattle.report_draft.specs.Draft.{Draft, report_closed, start}
 use Rattle.report_read.specs.Read.{reports_of}
 use Rattle.report_read.specs.ReadBack.{IsReadOf, IsReadable, IsShownInode, ReportIsRead, text_at}
-use Rattle.report_read.specs.Report.{ReportValue}
+use Rattle.report_lines.specs.Report.{ReportValue}
 use Rattle.report_read.proofs.Fold.{end_of, fold, fold-append, spans}
 use Rattle.report_read.proofs.Chains.{length-values, values}
 use Rattle.report_read.proofs.InodesBack.{IsBlock, block_of, held, inodes_back, stage_of}

@@ -14,11 +14,11 @@ use Rattle.report_text.specs.model.events.policy.declared.rule.Act.{Act}
 use Rattle.report_text.specs.model.events.policy.declared.rule.Act.TheVariants as act
 use Rattle.report_text.specs.model.events.policy.Key.{keys}
 use Rattle.report_text.specs.model.rules.declared.cell.RuleEntry.{RuleEntry}
-use Rattle.report_read.specs.declared.draft.Stage.{Stage}
-use Rattle.report_read.specs.declared.draft.Stage.TheVariants as stage
+use Rattle.report_draft.specs.declared.draft.Stage.{Stage}
+use Rattle.report_draft.specs.declared.draft.Stage.TheVariants as stage
 use Rattle.report_words.specs.declared.event.Span.{Span}
-use Rattle.report_read.specs.Draft.{Draft, follows, rules_left, with_words}
-use Rattle.report_read.specs.Lines.{first_is_filled, rule_of}
+use Rattle.report_draft.specs.Draft.{Draft, follows, rules_left, with_words}
+use Rattle.report_lines.specs.Lines.{first_is_filled, rule_of}
 use Rattle.report_read.specs.ReadBack.{IsShownRule}
 use Rattle.report_read.proofs.Chains.{AllGood, blocks, chain_whole, fold_one, length_push, values, values_push}
 use Rattle.report_read.proofs.Fold.{end_of, fold, fold_step, line_span, next, step}

@@ -10,13 +10,13 @@ use Rattle.report_text.specs.model.EndedValue.{EndedTaskValue as EndedTask}
 use Rattle.report_text.specs.model.events.meta.declared.appraisal.EvmStatus.TheVariants as status
 use Rattle.report_text.specs.model.steps.declared.reply.Reply as model
 use Rattle.report_text.specs.model.steps.declared.reply.Reply.TheVariants as reply
-use Rattle.report_read.specs.declared.draft.Stage.{Stage}
-use Rattle.report_read.specs.declared.draft.Stage.TheVariants as stage
-use Rattle.report_read.specs.declared.report.Reply.{Reply}
-use Rattle.report_read.specs.Draft.{Draft, begins, begins_with_number, report_closed, task_closed, with_last, with_words}
-use Rattle.report_read.specs.Lines.{reply_of}
+use Rattle.report_draft.specs.declared.draft.Stage.{Stage}
+use Rattle.report_draft.specs.declared.draft.Stage.TheVariants as stage
+use Rattle.report_lines.specs.declared.report.Reply.{Reply}
+use Rattle.report_draft.specs.Draft.{Draft, begins, begins_with_number, report_closed, task_closed, with_last, with_words}
+use Rattle.report_lines.specs.Lines.{reply_of}
 use Rattle.report_read.specs.ReadBack.{IsShownReply, IsShownTask, is_ok}
-use Rattle.report_read.specs.Report.{TaskValue}
+use Rattle.report_lines.specs.Report.{TaskValue}
 use Rattle.report_read.proofs.Chains.{AllGood, blocks, chain_whole, fold_one, length-values, length_push, values, values_push}
 use Rattle.report_read.proofs.EntriesBack.{digest_back}
 use Rattle.report_read.proofs.Fold.{end_of, fold, fold-append, fold_step, line_span, next, step}

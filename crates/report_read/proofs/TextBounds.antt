@@ -7,13 +7,13 @@ use Rattle.std.proofs.lemmas.List.Splits.{length-slice_split}
 use Rattle.std.proofs.lemmas.List.Sums.{count_by-le-length}
 use Rattle.report_text.specs.model.events.forms.Lines.{◌>>=◌, lines}
 use Rattle.report_text.specs.model.events.forms.Tokens.{is_filled}
-use Rattle.report_read.specs.declared.draft.Stage.{Stage}
-use Rattle.report_read.specs.declared.draft.Stage.TheVariants as stage
-use Rattle.report_read.specs.Draft.{Draft, is_last, is_over, start}
+use Rattle.report_draft.specs.declared.draft.Stage.{Stage}
+use Rattle.report_draft.specs.declared.draft.Stage.TheVariants as stage
+use Rattle.report_draft.specs.Draft.{Draft, is_last, is_over, start}
 use Rattle.report_words.specs.Forms.{first_words}
 use Rattle.report_read.specs.Read.{read_from, span_at, with_line}
-use Rattle.report_read.specs.Report.{HasShortJournals, InodeValue, ReportValue}
-use Rattle.report_read.proofs.DraftBounds.{Bounded, HasShort, left_of, one_more}
+use Rattle.report_lines.specs.Report.{HasShortJournals, InodeValue, ReportValue}
+use Rattle.report_draft.proofs.DraftBounds.{Bounded, HasShort, left_of, one_more}
 
 -- a draft that may be the last one of a text
 abbrev Ends : ℕ → ℕ → Draft → Type 0

@@ -8,7 +8,7 @@ use Rattle.report_text.specs.model.events.forms.Lines.{◌>>=◌, lines}
 use Rattle.report_text.specs.model.events.forms.Words.{is_line, text_of}
 use Rattle.report_text.proofs.about_forms.Tells.{flat_words, line_split, words_back}
 use Rattle.report_words.proofs.about_lines.Reading.{some_line}
-use Rattle.report_read.specs.Draft.{Draft, is_over, with_words}
+use Rattle.report_draft.specs.Draft.{Draft, is_over, with_words}
 use Rattle.report_read.specs.Read.{read_from, with_line}
 use Rattle.report_read.proofs.Fold.{fold, fold_from, line_span, next}
 use Rattle.report_read.proofs.Reading.{one_more}

@@ -15,9 +15,9 @@ use Rattle.report_text.specs.model.events.templates.declared.entry.Entry.{Entry}
 use Rattle.report_text.specs.model.steps.declared.reply.Reply as model
 use Rattle.report_words.specs.declared.event.Event.{Event}
 use Rattle.report_words.specs.declared.event.Span.{Span}
-use Rattle.report_read.specs.declared.report.Reply.{Reply}
+use Rattle.report_lines.specs.declared.report.Reply.{Reply}
 use Rattle.report_read.specs.ReadBack.{text_at}
-use Rattle.report_read.specs.Report.{InodeValue, TaskValue}
+use Rattle.report_lines.specs.Report.{InodeValue, TaskValue}
 use Rattle.report_read.specs.Short.{short, without_line}
 use Rattle.report_read.proofs.Chains.{values}
 use Rattle.report_read.proofs.Fold.{end_of, line_span, next, spans}

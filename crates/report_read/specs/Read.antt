@@ -3,9 +3,9 @@ use Rattle.std.specs.Prelude.{ℕ, ◌+◌, not, ◌&&◌, List, [], ◌∷◌, 
 use Rattle.report_text.specs.model.events.forms.Lines.{◌>>=◌, lines}
 use Rattle.report_text.specs.model.events.forms.Tokens.{is_filled}
 use Rattle.report_words.specs.declared.event.Span.{Span}
-use Rattle.report_read.specs.Draft.{Draft, is_over, start, with_words}
+use Rattle.report_draft.specs.Draft.{Draft, is_over, start, with_words}
 use Rattle.report_words.specs.Forms.{first_words}
-use Rattle.report_read.specs.Report.{ReportValue}
+use Rattle.report_lines.specs.Report.{ReportValue}
 
 -- a line that begins at this index
 abbrev pub span_at : ℕ → List ℕ → Span

@@ -35,12 +35,12 @@ use Rattle.report_text.specs.model.events.templates.xattrs.Attrs.{Pair}
 use Rattle.report_text.specs.model.rules.declared.cell.RuleEntry.{RuleEntry}
 use Rattle.report_words.specs.declared.event.Event.{Event}
 use Rattle.report_words.specs.declared.event.Span.{Span}
-use Rattle.report_read.specs.declared.report.Reply.{Reply}
-use Rattle.report_read.specs.Draft.{entry_fits, entry_of}
+use Rattle.report_lines.specs.declared.report.Reply.{Reply}
+use Rattle.report_draft.specs.Draft.{entry_fits, entry_of}
 use Rattle.report_words.specs.Forms.{first_words}
-use Rattle.report_read.specs.Lines.{event_of}
+use Rattle.report_lines.specs.Lines.{event_of}
 use Rattle.report_read.specs.Read.{reports_of}
-use Rattle.report_read.specs.Report.{InodeValue, ReportValue, TaskValue}
+use Rattle.report_lines.specs.Report.{InodeValue, ReportValue, TaskValue}
 use Rattle.report_read.specs.Short.{short, without_line}
 
 -- the bytes of a range of the text

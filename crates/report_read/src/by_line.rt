@@ -2,13 +2,11 @@
 
 ghost use Rattle.std.specs.Prelude.{◌≡◌, ◌+◌, ◌-◌, ◌<◌, ◌^◌, length, All, IfOk};
 ghost use Rattle.report_text.specs.model.events.forms.Lines.{lines};
-ghost use Rattle.report_read.specs.Makes.{Gives, Makes, ReadsAs};
+ghost use Rattle.report_draft.specs.Makes.{Gives, Makes, ReadsAs};
 ghost use Rattle.report_read.specs.Read.{reports_of, with_line, read_from};
-ghost use Rattle.report_read.specs.Report.{HasShortJournals};
+ghost use Rattle.report_lines.specs.Report.{HasShortJournals};
 
-use crate::draft::Draft;
-use crate::fault::{LineErr, ReadErr};
-use crate::report::Report;
+use report_draft::{Draft, LineErr, ReadErr, Report};
 use report_words::{Span, first_words};
 use script_words::cut;
 use std::alloc::Global;

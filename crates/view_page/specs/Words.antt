@@ -2,7 +2,7 @@
 use Rattle.std.specs.Prelude.{ℕ, suc, ◌+◌, ◌-◌, ◌==◌, min, List, [], ◌∷◌, if◌then◌else◌}
 use Rattle.view_page.specs.Pieces.{text_at}
 use Rattle.view_journal.specs.reading.words.declared.event.Span.{Span}
-use Rattle.view_journal.specs.reading.declared.report.InodeHead.{InodeHead}
+use Rattle.view_journal.specs.reading.lines.declared.report.InodeHead.{InodeHead}
 
 -- the length of the first word
 abbrev pub word_len : List ℕ → ℕ

@@ -8,7 +8,7 @@ use Rattle.view_page.specs.journals.declared.window.Window.{Window}
 use Rattle.view_page.specs.journals.reading.Report.{InodeValue, ReportValue}
 use Rattle.view_page.specs.journals.reading.words.declared.event.Event.{Event}
 use Rattle.view_page.specs.journals.reading.words.declared.event.Span.{Span}
-use Rattle.view_page.specs.journals.reading.declared.report.InodeHead.{InodeHead}
+use Rattle.view_page.specs.journals.reading.lines.declared.report.InodeHead.{InodeHead}
 use Rattle.view_sentences.specs.Alike.{differing, parted}
 use Rattle.view_tables.specs.Frame.{head, tiles}
 use Rattle.view_pages.specs.Page.{tables}

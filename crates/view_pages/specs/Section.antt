@@ -8,7 +8,7 @@ use Rattle.view_page.specs.journals.declared.window.Window.{Window}
 use Rattle.view_page.specs.journals.reading.Report.{InodeValue}
 use Rattle.view_page.specs.journals.reading.words.declared.event.Event.{Event}
 use Rattle.view_page.specs.journals.reading.words.declared.event.Span.{Span}
-use Rattle.view_page.specs.journals.reading.declared.report.InodeHead.{InodeHead}
+use Rattle.view_page.specs.journals.reading.lines.declared.report.InodeHead.{InodeHead}
 use Rattle.view_plan.specs.Order.{count}
 use Rattle.view_overview.specs.Overview.{overview_of}
 use Rattle.view_page.specs.Parts.{by_count, more}

@@ -3,8 +3,8 @@ use Rattle.std.specs.Prelude.{ℕ, ◌+◌, ◌-◌, nat_lt, not, Bool, true, fa
 use Rattle.view_page.specs.declared.own.Side.{Side}
 use Rattle.view_page.specs.journals.reading.Report.{InodeValue, TaskValue}
 use Rattle.view_page.specs.journals.reading.words.declared.event.Span.{Span}
-use Rattle.view_page.specs.journals.reading.declared.report.InodeHead.{InodeHead}
-use Rattle.view_page.specs.journals.reading.declared.report.Reply.{Reply}
+use Rattle.view_page.specs.journals.reading.lines.declared.report.InodeHead.{InodeHead}
+use Rattle.view_page.specs.journals.reading.lines.declared.report.Reply.{Reply}
 use Rattle.view_tables.specs.Entries.{first_shown, is_shown, joined, said}
 use Rattle.view_plan.specs.Order.{counted}
 use Rattle.view_page.specs.Parts.{more}

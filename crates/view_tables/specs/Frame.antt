@@ -3,9 +3,9 @@ use Rattle.std.specs.Prelude.{ℕ, ◌+◌, nat_lt, not, Bool, true, false, List
 use Rattle.view_page.specs.declared.own.Own.TheVariants as own
 use Rattle.view_page.specs.declared.pieces.Piece.TheVariants as piece
 use Rattle.view_page.specs.journals.reading.Report.{InodeValue, ReportValue, TaskValue}
-use Rattle.view_page.specs.journals.reading.declared.report.Reply.{Reply}
-use Rattle.view_page.specs.journals.reading.declared.report.RunEnd.{RunEnd}
-use Rattle.view_page.specs.journals.reading.declared.report.RunEnd.TheVariants as run
+use Rattle.view_page.specs.journals.reading.lines.declared.report.Reply.{Reply}
+use Rattle.view_page.specs.journals.reading.lines.declared.report.RunEnd.{RunEnd}
+use Rattle.view_page.specs.journals.reading.lines.declared.report.RunEnd.TheVariants as run
 use Rattle.view_plan.specs.Sums.{sum_up_to}
 use Rattle.view_page.specs.declared.html.Frame.{Frame}
 use Rattle.view_page.specs.declared.html.Frame.TheVariants as frame

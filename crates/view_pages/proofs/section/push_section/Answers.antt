@@ -4,7 +4,7 @@ use Rattle.std.specs.Prelude.{OnOk}
 use Rattle.view_page.specs.journals.reading.Report.{InodeValue}
 use Rattle.view_page.specs.journals.reading.words.declared.event.Event.{Event}
 use Rattle.view_page.specs.journals.reading.words.declared.event.Span.{Span}
-use Rattle.view_page.specs.journals.reading.declared.report.InodeHead.{InodeHead}
+use Rattle.view_page.specs.journals.reading.lines.declared.report.InodeHead.{InodeHead}
 use Rattle.view_pages.specs.Section.{section_by}
 use Rattle.view_page.specs.Parts.{Pushed}
 use Rattle.view_pages.proofs.section.push_section.Goals as goal

@@ -1,7 +1,7 @@
 use Rattle.std.proofs.Common.{◌≡◌, ℕ, ◌+◌, false, List, ◌++◌, drop, get_or, ap, sym, ◌∙◌, arith}
 use Rattle.std.proofs.lemmas.List.{at_drop_all, at_drop_more}
 use Rattle.std.specs.Prelude.{not}
-use Rattle.view_page.specs.journals.reading.declared.report.Reply.{Reply}
+use Rattle.view_page.specs.journals.reading.lines.declared.report.Reply.{Reply}
 use Rattle.view_tables.specs.Calls.{chip_at, chips_from}
 use Rattle.view_plan.specs.Order.{counted}
 use Rattle.view_page.specs.Parts.{page_of}
