@@ -187,6 +187,17 @@ pub fn index_read<'a>(
     )
 }
 
+pub fn index_deciders(
+    index: &rule_match::Index,
+    family: rule_match::Family,
+    a: &policy_text::Access<'_>,
+) -> (Option<usize>, rule_match::Deciders) {
+    (
+        rule_match::Index::decider(index, family, a),
+        rule_match::Index::deciders(index, a),
+    )
+}
+
 pub fn index_append(
     index: &mut rule_match::Index,
     r: &policy_text::Rule,
