@@ -2,8 +2,8 @@
 //! streams; records, labels and comments; the texts of scripts that are made and printed, and a
 //! command line with an empty word; and that what a caller pushed on a shared list stays there.
 //!
-//! `worked_cases` calls `hold`. The tests are no `#[test]` functions, since a crate that has some is
-//! proved twice and is a program of its own. Their tables are statics: some constants that hold
+//! `worked_cases` calls `hold`. The tests are plain functions, since a crate that has test functions
+//! is proved twice and is a program of its own. Their tables are statics: some constants that hold
 //! references, such as rows with an `Option` of a text, are built anew wherever they are borrowed,
 //! and each part is a step of the proof.
 #![tactic(auto)]
