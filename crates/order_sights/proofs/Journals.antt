@@ -7,7 +7,7 @@ use Rattle.inode_events.specs.declared.told.Event.{Event}
 use Rattle.inode_events.specs.templates.declared.entry.Entry.{Entry}
 use Rattle.order_sights.specs.Inodes.{AreFilesSame, AreJournalsSame}
 use Rattle.order_sights.specs.Taken.{taken}
-use Rattle.order_sights.specs.Told.{AreEntriesSame, IsCallSame}
+use Rattle.order_told.specs.Told.{AreEntriesSame, IsCallSame}
 use Rattle.order_sights.specs.declared.pairs.Pair.{Pair}
 
 -- the journals and the inodes under other names

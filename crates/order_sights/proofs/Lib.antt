@@ -1,8 +1,6 @@
-pub mod Walks
 pub mod Seeing
 pub mod Twos
 pub mod Singles
-pub mod Telling
 pub mod Journals
 pub mod Naming
 pub mod Seen
@@ -11,3 +9,5 @@ pub mod Meeting
 pub mod Founding
 pub mod Taking
 pub mod Listing
+pub use Rattle.order_told.proofs.Walks
+pub use Rattle.order_told.proofs.Telling

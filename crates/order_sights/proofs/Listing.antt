@@ -14,7 +14,7 @@ use Rattle.inode_events.specs.templates.declared.entry.Entry.{Entry}
 use Rattle.order_alike.specs.Alike.{places_in}
 use Rattle.order_alike.proofs.InodeTold.{listed_places, shown_in}
 use Rattle.order_outcomes.specs.Calls.{is_listed, shows, shows_at}
-use Rattle.order_sights.specs.Told.{AreEntriesSame, IsAt, IsThere}
+use Rattle.order_told.specs.Told.{AreEntriesSame, IsAt, IsThere}
 
 -- two tests that imply each other are equal
 both_ways : (s t : Bool) → (s ≡ true → t ≡ true) → (t ≡ true → s ≡ true) → s ≡ t

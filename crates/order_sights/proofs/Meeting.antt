@@ -47,8 +47,8 @@ use Rattle.order_sights.proofs.Listing.{shown_same}
 use Rattle.order_sights.proofs.Naming.{named_apart, named_elsewhere, named_is, passed_all, positions_are, used_in}
 use Rattle.order_sights.proofs.Saying.{listed_same, told_same, unchecked_beyond}
 use Rattle.order_sights.proofs.Taking.{taken_is}
-use Rattle.order_sights.proofs.Telling.{All-reverse}
-use Rattle.order_sights.proofs.Walks.{length_past}
+use Rattle.order_told.proofs.Telling.{All-reverse}
+use Rattle.order_told.proofs.Walks.{length_past}
 use Rattle.order_sights.proofs.Seen.{collection_is, force_is, has_begun, have_begun}
 
 -- ---- an inode, by its journals

@@ -1,8 +1,9 @@
 -- Two lists that are walked together.
-use Rattle.std.proofs.Common.{◌≡◌, ℕ, ◌+◌, ◌<◌, ◌≤◌, List, [], ◌∷◌, ◌++◌, length, map, take, get_or, Option, Some, None, option_map, refl, ap, sym, subst, ◌∙◌, slice_get, below_more, arith}
-use Rattle.std.proofs.lemmas.List.{length-map, take_more}
+use Rattle.std.proofs.Common.{◌≡◌, ℕ, ◌+◌, ◌<◌, ◌≤◌, List, length, map, get_or, Option, Some, None, option_map, refl, sym, subst, ◌∙◌, slice_get, below_more, arith}
+use Rattle.std.proofs.lemmas.List.{length-map}
 use Rattle.std.proofs.lemmas.Option.{none-some, same_Some, slice_get-get_or, slice_get-map}
 use Rattle.order_sights.specs.Pairs.{AreTwo}
+pub use Rattle.order_told.proofs.Firsts.{take_next}
 
 -- the items at one place more are related
 pub two_more : {X Y : Type 0} (P : X → Y → Type 0) (xs : List X) (ys : List Y) (k : ℕ) (x : X)
@@ -27,15 +28,6 @@ pub two_next : {X Y : Type 0} (P : X → Y → Type 0) (xs : List X) (ys : List 
 two_next {X} {Y} P xs ys k x y lt lt2 is is2 now before =
     two_more P xs ys k x y lt lt2
     (subst (λ (z : Y). P (get_or xs k x) z) is2 (subst (λ (z : X). P z y) is now)) before
-
--- the first items are the same, and so is the next one
-pub take_next : {X : Type 0} (xs ys : List X) (k : ℕ) (x y : X) → k < length xs → k < length ys
-    → x ≡ get_or xs k x → y ≡ get_or ys k y → x ≡ y → take k xs ≡ take k ys
-    → take (k + 1) xs ≡ take (k + 1) ys
-take_next xs ys k x y lt lt2 is is2 same before =
-    take_more xs k x lt
-    ∙ (λ i. before i ++ (sym is ∙ same ∙ is2) i ∷ [])
-    ∙ sym (take_more ys k y lt2)
 
 -- what a function gives of the items is related
 pub two_mapped : {X Y : Type 0} (P : Y → Y → Type 0) (f : X → Y) (xs ys : List X)

@@ -14,7 +14,7 @@ use Rattle.inode_state.specs.declared.state.State.{State}
 use Rattle.order_sights.specs.Pairs.{has_pair}
 use Rattle.order_sights.specs.States.{IsStateSame}
 use Rattle.order_sights.specs.Taken.{taken}
-use Rattle.order_sights.specs.Told.{AreEntriesSame, IsCallSame, are_checks_below}
+use Rattle.order_told.specs.Told.{AreEntriesSame, IsCallSame, are_checks_below}
 use Rattle.order_sights.specs.declared.pairs.Pair.{Pair}
 
 -- both journals have a place of the file's name, and say the same of it

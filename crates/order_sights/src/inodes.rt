@@ -6,14 +6,13 @@ ghost use Rattle.order_sights.specs.Inodes.{AreFilesSame, AreJournalsSame, FitsI
 
 use crate::files::file_seen;
 use crate::pairs::{Pair, has_pair};
-use crate::same::{Same, same_all};
 use crate::states::same_state;
 use crate::taken::same_taken;
-use crate::told::{are_checks_below, same_calls, same_entries};
 use inode_cell::InodeCell;
 use inode_events::templates::Entry;
 use inode_events::{EndedInode, Event, How};
 use inode_pages::Content;
+use order_told::{Same, are_checks_below, same_all, same_calls, same_entries};
 use std::alloc::{AllocError as OutOfMemory, Global};
 
 // ---- files

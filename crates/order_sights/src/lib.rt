@@ -9,11 +9,9 @@ mod inodes;
 mod lists;
 mod mark;
 mod pairs;
-mod same;
 mod sight;
 mod states;
 mod taken;
 mod tasks;
-mod told;
 
 pub use sight::{Sight, are_alike};

@@ -3,8 +3,8 @@
 ghost use Rattle.std.specs.Prelude.{IsTrue};
 ghost use Rattle.order_alike.specs.Alike.{AreIn, IsIn};
 
-use crate::same::Same;
 use inode_events::templates::Entry;
+use order_told::Same;
 
 // Whether the list has the entry.
 fn is_in(list: &[Entry], entry: &Entry) -> bool

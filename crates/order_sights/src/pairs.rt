@@ -6,8 +6,8 @@ ghost use Rattle.order_sights.specs.Pairs.{HandlesPaired, IsHandlePaired, IsProg
 ghost use Rattle.task_state.specs.Value.{progress_in};
 ghost use Rattle.std.specs.Prelude.{option_map};
 
-use crate::same::Same;
 use call_steps::Handle;
+use order_told::Same;
 use task_state::Progress;
 
 /// A file of an inode in one moment, and the same file in another.

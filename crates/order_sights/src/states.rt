@@ -3,8 +3,8 @@
 ghost use Rattle.std.specs.Prelude.{◌≡◌, IsTrue};
 ghost use Rattle.order_sights.specs.States.{AreCollectionsSame, IsStateSame, force_seen};
 
-use crate::same::{Same, same_all};
 use inode_state::State;
+use order_told::{Same, same_all};
 
 // Whether the digests in force are the same, and both stale or neither.
 fn same_force(a: &State, b: &State) -> bool

@@ -5,10 +5,10 @@ ghost use Rattle.inode_events.specs.NewestFirst.{newest_first};
 ghost use Rattle.inode_events.specs.pages.Content.{piece_at};
 ghost use Rattle.order_sights.specs.Taken.{none_taken, taken, taken_after, taken_more};
 
-use crate::same::same_all;
 use inode_events::{Deed, Event, Told};
 use inode_pages::{Content, Page};
 use order_outcomes::follow;
+use order_told::same_all;
 use std::alloc::{AllocError as OutOfMemory, Global};
 use std::marker::Model;
 

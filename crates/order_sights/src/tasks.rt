@@ -5,8 +5,8 @@ ghost use Rattle.order_sights.specs.Pairs.{ArePositionsPaired, IsPositionPaired}
 ghost use Rattle.task_core.specs.worlds.Runs.{position_of};
 
 use crate::pairs::{Pair, same_handles, same_progress};
-use crate::same::same_all;
 use call_steps::Handle;
+use order_told::same_all;
 use std::alloc::{AllocError as OutOfMemory, Global};
 use task_core::Task;
 use task_state::{Progress, TaskState};

@@ -5,7 +5,7 @@ use Rattle.inode_events.specs.policy.ActionValue.{ActionValue}
 use Rattle.inode_events.specs.policy.declared.rule.Func.TheVariants as func
 use Rattle.order_sights.specs.Files.{IsSeen}
 use Rattle.order_sights.proofs.Seeing.{seen_next, seen_none}
-use Rattle.order_sights.proofs.Walks.{past_all}
+use Rattle.order_told.proofs.Walks.{past_all}
 use Rattle.order_sights.proofs.files.file_seen.Goals as goal
 
 pub loop-place-init : goal.loop-place-init

@@ -3,7 +3,7 @@ use Rattle.inode_events.specs.State.{content}
 use Rattle.order_sights.specs.Taken.{taken}
 use Rattle.order_sights.proofs.Taking.{content_more, taken_further}
 use Rattle.order_outcomes.proofs.Walking.{past_none}
-use Rattle.order_sights.proofs.Walks.{past_all}
+use Rattle.order_told.proofs.Walks.{past_all}
 use Rattle.order_sights.proofs.taken.taken_in.Goals as goal
 
 pub loop-event-init : goal.loop-event-init

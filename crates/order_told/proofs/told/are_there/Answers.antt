@@ -2,8 +2,8 @@ use Rattle.std.proofs.Common.{ℕ, List, subst}
 use Rattle.std.specs.Prelude.{All}
 use Rattle.std.proofs.lemmas.List.{take_all}
 use Rattle.std.proofs.lemmas.List.Elements.{All-more}
-use Rattle.order_sights.specs.Told.{IsThere}
-use Rattle.order_sights.proofs.told.are_there.Goals as goal
+use Rattle.order_told.specs.Told.{IsThere}
+use Rattle.order_told.proofs.told.are_there.Goals as goal
 
 pub loop-place-preserved : goal.loop-place-preserved
 loop-place-preserved c =

@@ -24,12 +24,6 @@ fn same_reply(a: Reply, b: Reply) -> bool
     a == b
 }
 
-impl Same for u64 {
-    fn is_same(&self, other: &u64) -> bool {
-        *self == *other
-    }
-}
-
 impl Same for Reply {
     fn is_same(&self, other: &Reply) -> bool {
         same_reply(*self, *other)

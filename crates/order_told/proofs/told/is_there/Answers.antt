@@ -1,7 +1,7 @@
 use Rattle.std.proofs.Common.{arith, ltb-false, subst, sym, ◌∙◌}
 use Rattle.std.proofs.lemmas.Option.{get_or_from_slice_get, slice_get_within}
-use Rattle.order_sights.specs.Told.{IsAt}
-use Rattle.order_sights.proofs.told.is_there.Goals as goal
+use Rattle.order_told.specs.Told.{IsAt}
+use Rattle.order_told.proofs.told.is_there.Goals as goal
 
 pub returns-in-Some : goal.returns-in-Some
 returns-in-Some c = λ t e at.

@@ -1,7 +1,7 @@
 use Rattle.std.proofs.Common.{length, sym, ◌≤◌, ◌∙◌, arith}
 use Rattle.std.proofs.lemmas.List.{take_all}
-use Rattle.order_sights.proofs.Twos.{take_next}
-use Rattle.order_sights.proofs.same.same_all.Goals as goal
+use Rattle.order_told.proofs.Firsts.{take_next}
+use Rattle.order_told.proofs.same.same_all.Goals as goal
 
 pub loop-k-preserved : goal.loop-k-preserved
 loop-k-preserved g c =

@@ -1,9 +1,9 @@
 use Rattle.std.proofs.Common.{ℕ, List, ap, sym, ◌∙◌}
 use Rattle.std.specs.Prelude.{option_to_list, reverse}
 use Rattle.order_alike.specs.Alike.{places_in}
-use Rattle.order_sights.proofs.Telling.{places_next, places_none}
-use Rattle.order_sights.proofs.Walks.{past_all}
-use Rattle.order_sights.proofs.told.places_in.Goals as goal
+use Rattle.order_told.proofs.Telling.{places_next, places_none}
+use Rattle.order_told.proofs.Walks.{past_all}
+use Rattle.order_told.proofs.told.places_in.Goals as goal
 
 pub loop-event-init : goal.loop-event-init
 loop-event-init c = ap (λ (ps : List ℕ). reverse ps) c.new-places.ensures.items ∙ places_none

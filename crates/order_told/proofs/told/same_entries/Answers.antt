@@ -2,8 +2,8 @@ use Rattle.std.proofs.Common.{ℕ, List, ◌<◌, length, subst, sym}
 use Rattle.std.proofs.lemmas.Bool.{true≢false}
 use Rattle.std.specs.Prelude.{All}
 use Rattle.std.proofs.lemmas.Result.{err_from_is_err_and}
-use Rattle.order_sights.specs.Told.{IsThere}
-use Rattle.order_sights.proofs.told.same_entries.Goals as goal
+use Rattle.order_told.specs.Told.{IsThere}
+use Rattle.order_told.proofs.told.same_entries.Goals as goal
 
 pub returns : goal.returns
 returns c = λ t.

@@ -5,8 +5,8 @@ use Rattle.std.proofs.lemmas.List.{take_all}
 use Rattle.std.proofs.lemmas.List.Elements.{All-more}
 use Rattle.std.proofs.lemmas.Result.{err_from_is_err_and}
 use Rattle.inode_events.specs.declared.told.Event.{Event}
-use Rattle.order_sights.specs.Told.{IsCallSame}
-use Rattle.order_sights.proofs.told.same_calls.Goals as goal
+use Rattle.order_told.specs.Told.{IsCallSame}
+use Rattle.order_told.proofs.told.same_calls.Goals as goal
 
 pub loop-event-preserved : goal.loop-event-preserved
 loop-event-preserved c =

@@ -1,6 +1,6 @@
 use Rattle.std.proofs.Common.{get_or}
 use Rattle.std.proofs.lemmas.Option.{slice_get-get_or}
-use Rattle.order_sights.proofs.told.is_at.Goals as goal
+use Rattle.order_told.proofs.told.is_at.Goals as goal
 
 pub returns-then-is_entry_at : goal.returns-then-is_entry_at
 returns-then-is_entry_at c = λ _.
