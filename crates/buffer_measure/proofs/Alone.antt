@@ -17,10 +17,10 @@ use Rattle.script_text.specs.steps.templates.declared.entry.Entry.{Entry}
 use Rattle.script_text.proofs.Lasts.{each_weaker}
 use Rattle.buffer_measure.specs.Alone.{Outcome, alone_next, outcome_alone, run_alone}
 use Rattle.buffer_measure.specs.Answers.{IsAnswer, Rises, added_in, answer_of}
-use Rattle.buffer_measure.specs.Entries.{boot_entry, entry_for}
+use Rattle.buffer_entries.specs.Entries.{boot_entry, entry_for}
 use Rattle.buffer_measure.specs.Run.{AreAnswers, IsRunOf, RunValue}
 use Rattle.buffer_text.specs.Text.{Buffer, BufferValue, CallerValue}
-use Rattle.buffer_measure.specs.Wanted.{wanted}
+use Rattle.buffer_entries.specs.Wanted.{wanted}
 use Rattle.buffer_measure.specs.declared.answer.Answer.{Answer}
 use Rattle.buffer_measure.specs.declared.answer.Answer.TheVariants.{Skipped, Added, Already}
 use Rattle.buffer_measure.proofs.Closing.{rising}

@@ -15,7 +15,7 @@ use Rattle.script_text.specs.steps.templates.Same.{add_by, gained, place_of_same
 use Rattle.script_text.specs.steps.templates.declared.entry.Entry.{Entry}
 use Rattle.script_text.proofs.Lasts.{each_weaker}
 use Rattle.buffer_measure.specs.Answers.{IsAnswer, Rises, added, added_in, answer_of, named, named_in}
-use Rattle.buffer_measure.specs.Entries.{entry_for}
+use Rattle.buffer_entries.specs.Entries.{entry_for}
 use Rattle.buffer_text.specs.Text.{Buffer}
 use Rattle.buffer_measure.specs.Answered.{HaveAnswers, IsAdded, IsAnswered}
 use Rattle.buffer_measure.specs.declared.answer.Answer.{Answer}

@@ -20,7 +20,7 @@ use Rattle.buffer_measure.specs.Workers.{AreDone, Constants, IsBookOf, IsDone, a
 use Rattle.buffer_measure.specs.Run.{AreAnswers, IsRunOf}
 use Rattle.buffer_text.specs.Text.{Buffer, CallerValue}
 use Rattle.buffer_measure.specs.Answered.{HaveAnswers}
-use Rattle.buffer_measure.specs.Wanted.{wanted}
+use Rattle.buffer_entries.specs.Wanted.{wanted}
 use Rattle.buffer_measure.specs.declared.answer.Answer.{Answer}
 use Rattle.buffer_measure.specs.declared.answer.Answer.TheVariants.{Skipped, Added, Already}
 use Rattle.buffer_measure.specs.declared.workers.Worker.{Worker}

@@ -24,12 +24,12 @@ use Rattle.script_text.specs.Forms.{are_bytes, is_cred}
 use Rattle.script_text.specs.Limits.{most_value}
 use Rattle.script_text.proofs.Holding.{left_true, right_true}
 use Rattle.buffer_measure.specs.Answers.{IsAnswer, added_in}
-use Rattle.buffer_measure.specs.Entries.{boot_entry, entry_for}
+use Rattle.buffer_entries.specs.Entries.{boot_entry, entry_for}
 use Rattle.buffer_text.specs.Forms.{IsBufferText, is_buffer, is_caller}
 use Rattle.buffer_measure.specs.Print.{all_caller_lines, answer_lines, answer_words, caller_lines, head_lines, printed, run_lines}
 use Rattle.buffer_measure.specs.Run.{AreAnswers, IsRunOf, RunValue}
 use Rattle.buffer_text.specs.Text.{Buffer, BufferValue, CallerValue}
-use Rattle.buffer_measure.specs.Wanted.{wanted}
+use Rattle.buffer_entries.specs.Wanted.{wanted}
 use Rattle.buffer_measure.specs.declared.answer.Answer.{Answer}
 use Rattle.buffer_measure.specs.declared.answer.Answer.TheVariants.{Skipped, Added, Already}
 use Rattle.buffer_measure.proofs.Lists.{each_by_get}

@@ -11,7 +11,7 @@ use Rattle.script_text.specs.steps.templates.Same.{add, add_by, gained, place_of
 use Rattle.script_text.specs.steps.templates.declared.entry.Entry.{Entry}
 use Rattle.script_text.specs.steps.templates.declared.entry.Placed.{Placed}
 use Rattle.buffer_measure.specs.Answers.{answer_of}
-use Rattle.buffer_measure.specs.Entries.{boot_entry}
+use Rattle.buffer_entries.specs.Entries.{boot_entry}
 use Rattle.buffer_measure.specs.Workers.{AreReady, Constants, HasStarted, IsBookOf, caller_of, pass_of}
 use Rattle.buffer_text.specs.Text.{CallerValue}
 use Rattle.buffer_measure.specs.Answered.{IsAdded}

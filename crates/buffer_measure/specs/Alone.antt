@@ -6,10 +6,10 @@ use Rattle.measure_book.specs.Replay.{banks_of}
 use Rattle.script_text.specs.steps.templates.Same.{add, placed}
 use Rattle.script_text.specs.steps.templates.declared.entry.Entry.{Entry}
 use Rattle.buffer_measure.specs.Answers.{answer_of}
-use Rattle.buffer_measure.specs.Entries.{boot_entry, entry_for}
+use Rattle.buffer_entries.specs.Entries.{boot_entry, entry_for}
 use Rattle.buffer_measure.specs.Run.{IsRunOf, RunValue}
 use Rattle.buffer_text.specs.Text.{Buffer, BufferValue, CallerValue}
-use Rattle.buffer_measure.specs.Wanted.{wanted}
+use Rattle.buffer_entries.specs.Wanted.{wanted}
 use Rattle.buffer_measure.specs.declared.answer.Answer.{Answer}
 use Rattle.buffer_measure.specs.declared.answer.Answer.TheVariants.{Skipped}
 

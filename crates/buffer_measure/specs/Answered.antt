@@ -7,7 +7,7 @@ use Rattle.script_text.specs.steps.hashes.declared.algo.Algo.{Algo}
 use Rattle.script_text.specs.steps.templates.Same.{add, gained, placed}
 use Rattle.script_text.specs.steps.templates.declared.entry.Entry.{Entry}
 use Rattle.buffer_measure.specs.Answers.{IsAnswer, Rises, added_in, answer_of, named_in}
-use Rattle.buffer_measure.specs.Entries.{entry_for}
+use Rattle.buffer_entries.specs.Entries.{entry_for}
 use Rattle.buffer_text.specs.Text.{Buffer}
 use Rattle.buffer_measure.specs.declared.answer.Answer.{Answer}
 use Rattle.buffer_measure.specs.declared.answer.Answer.TheVariants.{Skipped}

@@ -6,7 +6,7 @@ use Rattle.script_text.specs.steps.templates.Same.{place_of_same}
 use Rattle.script_text.specs.steps.templates.declared.entry.Entry.{Entry}
 use Rattle.script_text.specs.steps.templates.declared.entry.Placed.{Placed}
 use Rattle.script_text.specs.steps.templates.declared.entry.Placed.TheVariants as placed
-use Rattle.buffer_measure.specs.Entries.{entry_for}
+use Rattle.buffer_entries.specs.Entries.{entry_for}
 use Rattle.buffer_text.specs.Text.{Buffer}
 use Rattle.buffer_measure.specs.declared.answer.Answer.{Answer}
 use Rattle.buffer_measure.specs.declared.answer.Answer.TheVariants.{Skipped, Added, Already}

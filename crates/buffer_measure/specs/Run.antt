@@ -6,9 +6,9 @@ use Rattle.measure_book.specs.Replay.{banks_of}
 use Rattle.script_text.specs.steps.templates.Same.{IsDistinct}
 use Rattle.script_text.specs.steps.templates.declared.entry.Entry.{Entry}
 use Rattle.buffer_measure.specs.Answers.{IsAnswer, Rises, added_in}
-use Rattle.buffer_measure.specs.Entries.{boot_entry}
+use Rattle.buffer_entries.specs.Entries.{boot_entry}
 use Rattle.buffer_text.specs.Text.{BufferValue, CallerValue}
-use Rattle.buffer_measure.specs.Wanted.{wanted}
+use Rattle.buffer_entries.specs.Wanted.{wanted}
 use Rattle.buffer_measure.specs.declared.answer.Answer.{Answer}
 
 pub record RunValue : Type 0 where

@@ -5,11 +5,11 @@ use Rattle.script_text.specs.steps.hashes.declared.algo.Algo.{Algo}
 use Rattle.script_text.specs.steps.policy.RuleValue.{RuleValue}
 use Rattle.script_text.specs.steps.templates.declared.entry.Entry.{Entry}
 use Rattle.buffer_text.specs.Draft.{no_buffers}
-use Rattle.buffer_measure.specs.Entries.{boot_entry}
+use Rattle.buffer_entries.specs.Entries.{boot_entry}
 use Rattle.buffer_text.specs.Forms.{IsBufferText}
 use Rattle.buffer_text.specs.Text.{BufferValue, CallerValue}
 use Rattle.buffer_measure.specs.Answered.{HaveAnswers}
-use Rattle.buffer_measure.specs.Wanted.{wanted}
+use Rattle.buffer_entries.specs.Wanted.{wanted}
 use Rattle.buffer_measure.specs.declared.answer.Answer.{Answer}
 use Rattle.buffer_measure.specs.declared.workers.Worker.{Worker}
 

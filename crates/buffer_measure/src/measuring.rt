@@ -6,9 +6,9 @@ ghost use Rattle.buffer_text.specs.Limits.{most_callers};
 ghost use Rattle.buffer_measure.specs.Run.{IsRunOf};
 
 use crate::book::{Name, TaggedBook};
-use crate::entries::boot_entry;
 use crate::run::BufferRun;
 use crate::workers::{Worker, parted, run_callers, workers_of};
+use buffer_entries::boot_entry;
 use buffer_text::{BufferCaller, BufferText};
 use hash_algos::Algo;
 use ima_io::Gate;

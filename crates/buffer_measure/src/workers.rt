@@ -9,8 +9,7 @@ ghost use Rattle.buffer_measure.specs.Answered.{HaveAnswers, IsAnswered, IsSameP
 use crate::answer::Answer;
 use crate::answers::Answers;
 use crate::book::{Name, TaggedBook};
-use crate::entries::entry_for;
-use crate::rules::wanted;
+use buffer_entries::{entry_for, wanted};
 use buffer_text::{BufferBytes, BufferCaller, VALUE};
 use hash_algos::Algo;
 use ima_io::{Gate, Who};

@@ -9,7 +9,7 @@ use Rattle.script_text.specs.steps.policy.RuleValue.{RuleValue}
 use Rattle.script_text.specs.steps.templates.declared.entry.Entry.{Entry}
 use Rattle.buffer_text.specs.Forms.{is_buffer}
 use Rattle.buffer_measure.specs.Answered.{HaveAnswers}
-use Rattle.buffer_measure.specs.Wanted.{wanted}
+use Rattle.buffer_entries.specs.Wanted.{wanted}
 use Rattle.buffer_measure.specs.Workers.{Constants, caller_of}
 use Rattle.buffer_measure.specs.declared.answer.Answer.{Answer}
 use Rattle.buffer_text.specs.Text.{Buffer, CallerValue}

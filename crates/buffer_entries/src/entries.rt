@@ -1,7 +1,7 @@
 // The entries of a run of buffers.
 
 ghost use Rattle.std.specs.Prelude.{◌≡◌, ◌<◌, true, IfOk};
-ghost use Rattle.buffer_measure.specs.Entries.{boot_entry, entry_for};
+ghost use Rattle.buffer_entries.specs.Entries.{boot_entry, entry_for};
 ghost use Rattle.buffer_text.specs.Forms.{is_buffer};
 
 use buffer_text::BufferBytes;

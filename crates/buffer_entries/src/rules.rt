@@ -2,9 +2,9 @@
 
 ghost use Rattle.std.specs.Prelude.{◌≡◌, ◌<◌, IfSome, find};
 ghost use Rattle.std.specs.Option.{option_copied};
-ghost use Rattle.script_text.specs.steps.policy.RuleValue.{if_there};
-ghost use Rattle.script_text.specs.steps.policy.Tests.{id_holds};
-ghost use Rattle.buffer_measure.specs.Wanted.{asks_of_a_file, decides, ids_hold, is_critical, is_measuring, register_of, wanted};
+ghost use Rattle.policy_text.specs.rules.RuleValue.{if_there};
+ghost use Rattle.policy_text.specs.rules.Tests.{id_holds};
+ghost use Rattle.buffer_entries.specs.Wanted.{asks_of_a_file, decides, ids_hold, is_critical, is_measuring, register_of, wanted};
 
 use inode_meta::{Cred, DEFAULT_PCR};
 use policy_text::{Act, Func, IdTest, Policy, Rule};

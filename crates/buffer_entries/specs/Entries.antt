@@ -1,12 +1,12 @@
 -- The entries of a run of buffers.
 use Rattle.std.specs.Prelude.{ℕ, [], codes}
-use Rattle.script_text.specs.events.meta.Registers.{default_pcr}
-use Rattle.script_text.specs.events.meta.declared.measurement.Template.TheVariants.{ImaNg, ImaBuf}
-use Rattle.script_text.specs.steps.hashes.Digest.{digest_of, zero_digest}
-use Rattle.script_text.specs.steps.hashes.declared.algo.Algo.{Algo}
-use Rattle.script_text.specs.steps.hashes.declared.algo.Algo.TheVariants.{Sha1}
-use Rattle.script_text.specs.steps.templates.Entries.{entry_of}
-use Rattle.script_text.specs.steps.templates.declared.entry.Entry.{Entry}
+use Rattle.inode_meta.specs.Registers.{default_pcr}
+use Rattle.inode_meta.specs.declared.measurement.Template.TheVariants.{ImaNg, ImaBuf}
+use Rattle.hash_algos.specs.Digest.{digest_of, zero_digest}
+use Rattle.hash_algos.specs.declared.algo.Algo.{Algo}
+use Rattle.hash_algos.specs.declared.algo.Algo.TheVariants.{Sha1}
+use Rattle.ima_templates.specs.Entries.{entry_of}
+use Rattle.ima_templates.specs.declared.entry.Entry.{Entry}
 use Rattle.buffer_text.specs.Text.{Buffer}
 
 -- the first entry: a boot aggregate of zeros by the text's algorithm

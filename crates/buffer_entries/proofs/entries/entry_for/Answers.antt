@@ -1,6 +1,6 @@
 -- The digest with the buffer's name and bytes are the fields of an entry.
-use Rattle.buffer_measure.proofs.Callers.{buffer_entry}
-use Rattle.buffer_measure.proofs.entries.entry_for.Goals as goal
+use Rattle.buffer_entries.proofs.EntryLemmas.{buffer_entry}
+use Rattle.buffer_entries.proofs.entries.entry_for.Goals as goal
 
 pub restore-requires : goal.restore-requires
 restore-requires c =

@@ -4,14 +4,14 @@
 -- the caller (the kernel's `ima_measure_critical_data`).
 use Rattle.std.specs.Prelude.{ℕ, Bool, true, false, not, ◌&&◌, ◌||◌, List, Option, Some, None, is_some, unwrap_or, find, if◌then◌else◌}
 use Rattle.std.specs.Option.{option_and_then}
-use Rattle.script_text.specs.events.meta.Registers.{default_pcr}
-use Rattle.script_text.specs.events.meta.declared.identity.Cred.{Cred}
-use Rattle.script_text.specs.steps.policy.RuleValue.{RuleValue, if_there, is_measure}
-use Rattle.script_text.specs.steps.policy.Tests.{id_holds}
-use Rattle.script_text.specs.steps.policy.declared.rule.Act.{Act}
-use Rattle.script_text.specs.steps.policy.declared.rule.Act.TheVariants as act
-use Rattle.script_text.specs.steps.policy.declared.rule.Func.{Func}
-use Rattle.script_text.specs.steps.policy.declared.rule.Func.TheVariants as func
+use Rattle.inode_meta.specs.Registers.{default_pcr}
+use Rattle.inode_meta.specs.declared.identity.Cred.{Cred}
+use Rattle.policy_text.specs.rules.RuleValue.{RuleValue, if_there, is_measure}
+use Rattle.policy_text.specs.rules.Tests.{id_holds}
+use Rattle.policy_text.specs.rules.declared.rule.Act.{Act}
+use Rattle.policy_text.specs.rules.declared.rule.Act.TheVariants as act
+use Rattle.policy_text.specs.rules.declared.rule.Func.{Func}
+use Rattle.policy_text.specs.rules.declared.rule.Func.TheVariants as func
 
 -- an action of the family `measure`
 abbrev pub is_measuring : Act → Bool
