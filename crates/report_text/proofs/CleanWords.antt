@@ -1,7 +1,7 @@
 -- No word of a report has a space or a newline in it.
 use Rattle.std.proofs.Common.{◌≡◌, ℕ, ◌<◌, ◌^◌, ◌+◌, ◌/◌, ◌%◌, zero, suc, Bool, true, false, List, [], ◌∷◌, ◌++◌, length, codes, Option, Some, None, unwrap_or, refl, arith}
 use Rattle.std.specs.Prelude.{slice_index}
-use Rattle.report_text.specs.Numerals.{numeral}
+use Rattle.report_events.specs.Numerals.{numeral}
 use Rattle.std.specs.Fmt.{digits}
 use Rattle.std.specs.List.{AllByRecursion, list_all}
 use Rattle.std.proofs.lemmas.Bool.{and_parts}
@@ -39,9 +39,9 @@ use Rattle.inode_events.specs.declared.deed.How.TheVariants as how
 use Rattle.inode_events.specs.declared.told.Event.{Event}
 use Rattle.inode_events.specs.declared.told.Told.{Told}
 use Rattle.inode_events.specs.declared.told.Told.TheVariants as told
-use Rattle.report_text.specs.Words.{Line, who_word, how_words, measure_words, appraise_words, flag_words, or_dash, acts_words, rules_words, length_word, change_words, deed_words, placed_words, verdict_words, admitted_words, told_words, step_words, event_lines}
+use Rattle.report_events.specs.Words.{Line, who_word, how_words, measure_words, appraise_words, flag_words, or_dash, acts_words, rules_words, length_word, change_words, deed_words, placed_words, verdict_words, admitted_words, told_words, step_words, event_lines}
 use Rattle.report_text.specs.Ranges.{IsChange, IsDeed}
-use Rattle.report_text.proofs.Numerals.{numeral_clean}
+use Rattle.report_events.proofs.Numerals.{numeral_clean}
 
 -- ---- small words
 

@@ -18,7 +18,7 @@ use Rattle.inode_meta.specs.Fields.{template_fields}
 use Rattle.inode_meta.specs.Words.{template_word}
 use Rattle.list_format.specs.Line.{field_text}
 use Rattle.text_forms.proofs.Tells.{parts_back}
-use Rattle.report_text.specs.Words.{Line}
+use Rattle.report_events.specs.Words.{Line}
 use Rattle.report_text.specs.Report.{entry_words, pcr_words}
 use Rattle.report_text.specs.Printed.{printed_entry}
 use Rattle.report_text.specs.Ranges.{IsListEntry}

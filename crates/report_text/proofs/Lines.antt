@@ -1,7 +1,7 @@
 -- The words of an entry make its line in `ascii_runtime_measurements`, and the words of an appended
 -- rule make its text.
 use Rattle.std.proofs.Common.{◌≡◌, ℕ, true, ◌==◌, nat_lt, List, [], ◌∷◌, ◌++◌, codes, map, refl, sym, ap, ◌∙◌, append_assoc, inl, inr}
-use Rattle.report_text.specs.Numerals.{numeral}
+use Rattle.report_events.specs.Numerals.{numeral}
 use Rattle.std.specs.List.{flat_map, join_with_byte, onto_first}
 use Rattle.std.proofs.lemmas.Bool.{cases_Bool, false≢true}
 use Rattle.std.proofs.lemmas.List.{append-nil}
@@ -18,7 +18,7 @@ use Rattle.policy_text.specs.Spelling.{rule_text}
 use Rattle.text_forms.specs.Tokens.{is_filled}
 use Rattle.text_forms.specs.Words.{words}
 use Rattle.policy_cell.specs.declared.cell.RuleEntry.{RuleEntry}
-use Rattle.report_text.specs.Words.{Line, who_word}
+use Rattle.report_events.specs.Words.{Line, who_word}
 use Rattle.report_text.specs.Report.{entry_words, pcr_words, rule_line}
 
 pcr_join : (pcr : ℕ) (h : List ℕ) (ws : Line) → join_with_byte 32 (pcr_words pcr ++ h ∷ ws)

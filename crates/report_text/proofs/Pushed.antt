@@ -1,6 +1,6 @@
 -- The pieces of each line, as the code appends them, make the line.
 use Rattle.std.proofs.Common.{◌≡◌, ℕ, suc, ◌+◌, Bool, true, List, [], ◌∷◌, ◌++◌, map, length, codes, refl, sym, ap, ◌∙◌, append_assoc, arith}
-use Rattle.report_text.specs.Numerals.{numeral}
+use Rattle.report_events.specs.Numerals.{numeral}
 use Rattle.std.specs.List.{flat_map, join_with_byte, list_any}
 use Rattle.std.specs.Prelude.{◌==◌}
 use Rattle.std.proofs.lemmas.List.{append-nil}
@@ -17,9 +17,9 @@ use Rattle.inode_events.specs.EndedInode.{EndedInodeValue as EndedInode}
 use Rattle.call_steps.specs.declared.reply.Reply.{Reply}
 use Rattle.call_steps.specs.declared.reply.Reply.TheVariants as reply
 use Rattle.report_text.specs.Report.{attr_line, entry_words, force_word, inode_head, inode_lines, pcr_lines_at, pcr_lines_to, reply_words, rule_line}
-use Rattle.report_text.specs.Texts.{line_text}
-use Rattle.report_text.specs.Words.{Line, event_lines, who_word}
-use Rattle.report_text.proofs.Joins.{join_append}
+use Rattle.report_events.specs.Texts.{line_text}
+use Rattle.report_events.specs.Words.{Line, event_lines, who_word}
+use Rattle.report_events.proofs.Joins.{join_append}
 use Rattle.report_text.proofs.Lines.{entry_line, rule_words}
 
 -- the text of a list of lines, one for each element

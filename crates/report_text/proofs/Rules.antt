@@ -11,7 +11,7 @@ use Rattle.policy_text.specs.declared.fault.RuleCause.{RuleCause}
 use Rattle.policy_text.specs.rules.declared.rule.Act.TheVariants as act
 use Rattle.policy_text.proofs.RulesAgain.{rule_again, rule_on_one_line}
 use Rattle.policy_cell.specs.declared.cell.RuleEntry.{RuleEntry}
-use Rattle.report_text.specs.Words.{Line}
+use Rattle.report_events.specs.Words.{Line}
 use Rattle.report_text.specs.Report.{rule_line, rule_lines}
 use Rattle.report_text.proofs.CleanWords.{number_kept, who_kept}
 use Rattle.report_text.proofs.Reading.{who_at, who_back}

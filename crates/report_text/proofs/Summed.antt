@@ -3,8 +3,8 @@ use Rattle.std.proofs.Common.{◌≡◌, ℕ, List, [], ◌∷◌, ◌++◌, cod
 use Rattle.std.proofs.lemmas.List.{append-nil}
 use Rattle.std.proofs.lemmas.Grind.{flat_map-append}
 use Rattle.text_forms.specs.Words.{text_of}
-use Rattle.report_text.specs.Texts.{line_text}
-use Rattle.report_text.specs.Words.{Line}
+use Rattle.report_events.specs.Texts.{line_text}
+use Rattle.report_events.specs.Words.{Line}
 
 sizes_gather : (o a n b s c l d v z : List ℕ)
     → ((((o ++ (a ++ n)) ++ (b ++ s)) ++ (c ++ l)) ++ (d ++ v)) ++ z

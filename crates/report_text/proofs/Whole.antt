@@ -1,6 +1,6 @@
 -- Equal reports determine the same run, up to what the lines don't print.
 use Rattle.std.proofs.Common.{inl, inr, ◌≡◌, ℕ, zero, suc, ◌+◌, ◌/◌, ◌%◌, not, ◌==◌, Bool, true, false, nat_lt, List, [], ◌∷◌, ◌++◌, length, map, codes, if◌then◌else◌, refl, sym, ap, ◌∙◌, append_assoc, arith, Option, Some, None}
-use Rattle.report_text.specs.Numerals.{numeral}
+use Rattle.report_events.specs.Numerals.{numeral}
 use Rattle.std.specs.List.{AllByRecursion, list_all, list_any, count_by}
 use Rattle.std.specs.Str.{bytes_eq}
 use Rattle.std.proofs.lemmas.Bool.{cases_Bool, false≢true}
@@ -27,7 +27,7 @@ use Rattle.xattr_store.specs.Attrs.{Pair}
 use Rattle.inode_events.specs.declared.told.Event.{Event}
 use Rattle.call_steps.specs.declared.reply.Reply.{Reply}
 use Rattle.call_steps.specs.declared.reply.Reply.TheVariants as reply
-use Rattle.report_text.specs.Words.{Line, event_lines}
+use Rattle.report_events.specs.Words.{Line, event_lines}
 use Rattle.policy_cell.specs.declared.cell.RuleEntry.{RuleEntry}
 use Rattle.policy_text.specs.rules.RuleValue.{IsRule}
 use Rattle.inode_events.specs.EndedInode.{EndedInodeValue as EndedInode}
@@ -35,7 +35,7 @@ use Rattle.run_model.specs.EndedValue.{EndedValue as Ended, EndedTaskValue as En
 use Rattle.report_text.specs.Report.{pcr_words, entry_words, pcr_lines_at, pcr_lines_to, pcr_lines, rule_lines, appended_lines, force_word, attr_line, inode_lines, all_inode_lines, reply_words, reply_lines, task_lines, all_task_lines, report_lines, report_of}
 use Rattle.report_text.specs.Printed.{printed, IsTold, IsOneScript}
 use Rattle.report_text.specs.Ranges.{FitsInode, Fits, IsClean, IsReply}
-use Rattle.report_text.proofs.Numerals.{high_clean, numeral_injective}
+use Rattle.report_events.proofs.Numerals.{high_clean, numeral_injective}
 use Rattle.report_text.proofs.Reading.{value, value_back, is_number, number_is, cause_at, cause_back, status_at, event_at, events_back}
 use Rattle.text_forms.specs.Words.{is_clean, is_line}
 use Rattle.text_forms.proofs.Tells.{text_tells}

@@ -1,6 +1,6 @@
 -- The report of a run: lines of words, and their bytes.
 use Rattle.std.specs.Prelude.{ℕ, zero, suc, ◌+◌, ◌/◌, ◌%◌, ◌==◌, nat_lt, Bool, true, false, List, [], ◌∷◌, ◌++◌, length, codes, map, count_by, Option, Some, None, if◌then◌else◌}
-use Rattle.report_text.specs.Numerals.{numeral}
+use Rattle.report_events.specs.Numerals.{numeral}
 use Rattle.std.specs.List.{list_all, list_any}
 use Rattle.hex.specs.Hex.{encode_lower}
 use Rattle.hash_algos.specs.Algo.{algo_name}
@@ -18,7 +18,7 @@ use Rattle.list_format.specs.Line.{field_text}
 use Rattle.policy_text.specs.Spelling.{rule_text}
 use Rattle.text_forms.specs.Words.{words, text_of}
 use Rattle.xattr_store.specs.Attrs.{Pair}
-use Rattle.report_text.specs.Words.{Line, event_lines, who_word}
+use Rattle.report_events.specs.Words.{Line, event_lines, who_word}
 use Rattle.inode_events.specs.EndedInode.{EndedInodeValue as EndedInode}
 use Rattle.run_model.specs.EndedValue.{EndedTaskValue as EndedTask, EndedValue as Ended}
 use Rattle.policy_cell.specs.declared.cell.RuleEntry.{RuleEntry}

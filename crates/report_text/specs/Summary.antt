@@ -1,13 +1,13 @@
 -- The summary of a generated run: its totals, and the default register.
 use Rattle.std.specs.Prelude.{ℕ, Bool, true, not, List, [], ◌∷◌, ◌++◌, length, codes, count_by, sum_by}
-use Rattle.report_text.specs.Numerals.{numeral}
+use Rattle.report_events.specs.Numerals.{numeral}
 use Rattle.std.specs.Str.{bytes_eq}
 use Rattle.text_forms.specs.Words.{text_of}
 use Rattle.inode_events.specs.EndedInode.{EndedInodeValue as EndedInode}
 use Rattle.run_model.specs.EndedValue.{EndedTaskValue as EndedTask, EndedValue as Ended}
 use Rattle.call_steps.specs.declared.reply.Reply.{Reply}
 use Rattle.report_text.specs.Report.{pcr_lines_at, reply_words}
-use Rattle.report_text.specs.Words.{Line}
+use Rattle.report_events.specs.Words.{Line}
 
 abbrev pub first_word : Line → List ℕ
 first_word [] = []

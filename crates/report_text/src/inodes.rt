@@ -1,19 +1,19 @@
 // The section of the inodes: their heads, attributes and journals.
 
 ghost use Rattle.std.specs.Prelude.{◌≡◌, [], ◌∷◌, ◌++◌, length, IfOk, OnOk, codes};
-ghost use Rattle.report_text.specs.Numerals.{numeral};
+ghost use Rattle.report_events.specs.Numerals.{numeral};
 ghost use Rattle.std.specs.List.{flat_map};
 ghost use Rattle.text_forms.specs.Words.{text_of};
 ghost use Rattle.report_text.specs.Report.{all_inode_lines, attr_line, force_word, inode_head, inode_lines};
-ghost use Rattle.report_text.specs.Texts.{line_text};
+ghost use Rattle.report_events.specs.Texts.{line_text};
 
-use crate::events::push_events;
-use crate::push::{cut, push_numbered};
+use crate::pieces::cut;
 use hash_algos::Digest;
 use ima_io::Pieces;
 use inode_events::EndedInode;
 use inode_meta::Template;
 use list_format::{append_hex, append_named_digest};
+use report_events::{push_events, push_numbered};
 use std::alloc::{AllocError as OutOfMemory, Global};
 use xattr_store::{Attrs, Bytes};
 

@@ -5,22 +5,17 @@
 //! reports have equal events, entries, rules and replies.
 #![tactic(auto)]
 
-mod acts;
-mod deeds;
-mod events;
 mod inodes;
 pub mod law;
 mod lists;
+mod pieces;
 mod print;
-mod push;
 mod tasks;
-mod tolds;
 mod totals;
 
-pub use events::push_who;
 pub use lists::{push_entries, push_registers, push_values};
 pub use print::{report, report_in_pieces};
-pub use push::{push_number, push_numbers};
+pub use report_events::{push_number, push_numbers, push_who};
 pub use std::alloc::AllocError as OutOfMemory;
 pub use tasks::push_reply;
 pub use totals::summary;

@@ -5,16 +5,15 @@ ghost use Rattle.std.specs.List.{flat_map, list_any};
 ghost use Rattle.list_format.specs.Line.{ascii_line};
 ghost use Rattle.text_forms.specs.Words.{text_of};
 ghost use Rattle.report_text.specs.Report.{appended_lines, pcr_lines, pcr_lines_at, rule_line, rule_lines};
-ghost use Rattle.report_text.specs.Texts.{line_text};
+ghost use Rattle.report_events.specs.Texts.{line_text};
 
-use crate::events::push_who;
-use crate::push::push_numbered;
 use ima_templates::Entry;
 use inode_meta::Bank;
 use itoa::Buffer;
 use list_format::{append_hex, ascii};
 use pcr_bank::Banks;
 use policy_text::print_rule;
+use report_events::{push_numbered, push_who};
 use run_model::RuleEntry;
 use std::alloc::{AllocError as OutOfMemory, Global};
 

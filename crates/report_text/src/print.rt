@@ -1,7 +1,7 @@
 // The report as a whole.
 
 ghost use Rattle.std.specs.Prelude.{◌≡◌, [], ◌∷◌, ◌++◌, IfOk, OnOk, codes, length};
-ghost use Rattle.report_text.specs.Numerals.{numeral};
+ghost use Rattle.report_events.specs.Numerals.{numeral};
 ghost use Rattle.std.specs.List.{count_by, flat_map, list_all};
 ghost use Rattle.list_format.specs.Line.{ascii_line};
 ghost use Rattle.text_forms.specs.Words.{text_of};
@@ -9,12 +9,12 @@ ghost use Rattle.report_text.specs.Report.{all_inode_lines, all_task_lines, appe
 
 use crate::inodes::{push_inodes, push_inodes_in_pieces};
 use crate::lists::{push_appended, push_entries, push_registers};
-use crate::push::push_numbered;
 use crate::tasks::{push_tasks, push_tasks_in_pieces};
 use ima_io::Pieces;
 use inode_events::EndedInode;
 use inode_meta::Template;
 use list_format::violations;
+use report_events::push_numbered;
 use run_model::{Ended, EndedTask};
 use std::alloc::{AllocError as OutOfMemory, Global};
 

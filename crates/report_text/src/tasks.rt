@@ -1,17 +1,18 @@
 // The section of the tasks: whether each is done, and its replies.
 
 ghost use Rattle.std.specs.Prelude.{◌≡◌, ◌∷◌, ◌++◌, OnOk};
-ghost use Rattle.report_text.specs.Numerals.{numeral};
+ghost use Rattle.report_events.specs.Numerals.{numeral};
 ghost use Rattle.std.specs.List.{join_with_byte};
 ghost use Rattle.text_forms.specs.Words.{text_of};
 ghost use Rattle.report_text.specs.Report.{all_task_lines, reply_lines, reply_words, task_lines};
-ghost use Rattle.report_text.specs.Texts.{line_text};
+ghost use Rattle.report_events.specs.Texts.{line_text};
 
-use crate::push::{cut, push_number, push_numbered, push_pair};
+use crate::pieces::cut;
 use call_steps::Reply;
 use hash_algos::Sha256Digest;
 use ima_io::Pieces;
 use list_format::append_hex;
+use report_events::{push_number, push_numbered, push_pair};
 use run_model::EndedTask;
 use std::alloc::{AllocError as OutOfMemory, Global};
 

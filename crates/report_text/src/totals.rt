@@ -1,17 +1,18 @@
 // The summary of a generated run: its totals.
 
 ghost use Rattle.std.specs.Prelude.{◌≡◌, [], ◌∷◌, ◌++◌, IfOk, OnOk, count_by, not};
-ghost use Rattle.report_text.specs.Numerals.{numeral};
+ghost use Rattle.report_events.specs.Numerals.{numeral};
 ghost use Rattle.std.specs.List.{join_with_byte};
 ghost use Rattle.text_forms.specs.Words.{text_of};
 ghost use Rattle.report_text.specs.Summary.{count_lines, event_count, is_ok_reply, reply_count, size_lines, summary_of};
 
 use crate::lists::push_values;
-use crate::push::{push_numbered, push_sum};
 use call_steps::Reply;
 use inode_events::EndedInode;
 use inode_meta::DEFAULT_PCR;
+use itoa::Buffer;
 use list_format::violations;
+use report_events::push_numbered;
 use run_model::{Ended, EndedTask};
 use std::alloc::{AllocError as OutOfMemory, Global};
 
@@ -49,6 +50,16 @@ fn push_counts(out: &mut Vec<u8>, e: &Ended) -> Result<(), OutOfMemory>
     push_sum(out, b"\nreplies ok", replies.ok)?;
     push_sum(out, b" refused", replies.refused)?;
     out.extend_from_slice(b"\n")
+}
+
+// Prints the words, a space and the number, which may have up to 128 bits.
+fn push_sum(out: &mut Vec<u8>, words: &[u8], n: u128) -> Result<(), OutOfMemory>
+    ensures { OnOk result (out.new.items
+        ≡ out.old.items ++ join_with_byte 32 (words.now ∷ numeral n ∷ [])) }
+{
+    out.extend_from_slice(words)?;
+    out.extend_from_slice(b" ")?;
+    out.extend_from_slice(Buffer::new().format(n).as_bytes())
 }
 
 fn count_events(inodes: &[EndedInode]) -> u128

@@ -1,8 +1,8 @@
 use Rattle.std.proofs.Common.{◌≡◌, ap, codes}
-use Rattle.report_text.specs.Numerals.{numeral}
+use Rattle.report_events.specs.Numerals.{numeral}
 use Rattle.inode_events.specs.EndedInode.{EndedInodeValue}
 use Rattle.report_text.proofs.Pushed.{inode_head_pushed}
-use Rattle.report_text.proofs.Joins.{last_pushed}
+use Rattle.report_events.proofs.Joins.{last_pushed}
 use Rattle.report_text.proofs.inodes.push_head.Goals as goal
 
 pub returns : goal.returns

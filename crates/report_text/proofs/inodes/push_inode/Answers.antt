@@ -1,7 +1,7 @@
 use Rattle.std.proofs.Common.{◌≡◌, ap}
 use Rattle.inode_events.specs.EndedInode.{EndedInodeValue}
 use Rattle.report_text.proofs.Pushed.{inode_pushed}
-use Rattle.report_text.proofs.Joins.{when_ok}
+use Rattle.report_events.proofs.Joins.{when_ok}
 use Rattle.report_text.proofs.inodes.push_inode.Goals as goal
 
 pub returns : goal.returns

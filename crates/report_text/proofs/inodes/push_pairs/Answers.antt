@@ -1,6 +1,6 @@
 use Rattle.std.proofs.Common.{◌++◌, ◌∙◌}
 use Rattle.report_text.specs.Report.{attr_line}
-use Rattle.report_text.specs.Texts.{line_text}
+use Rattle.report_events.specs.Texts.{line_text}
 use Rattle.list_lemmas.proofs.Appending.{one_item}
 use Rattle.report_text.proofs.inodes.push_pairs.Goals as goal
 

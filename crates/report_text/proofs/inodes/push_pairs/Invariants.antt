@@ -2,7 +2,7 @@
 use Rattle.std.proofs.Common.{◌≡◌, ◌++◌, take}
 use Rattle.std.specs.List.{flat_map}
 use Rattle.report_text.specs.Report.{attr_line}
-use Rattle.report_text.specs.Texts.{line_text}
+use Rattle.report_events.specs.Texts.{line_text}
 use Rattle.report_text.proofs.inodes.push_pairs.Given as goal
 
 abbrev pub invariant-loop-pair : goal.invariant-loop-pair

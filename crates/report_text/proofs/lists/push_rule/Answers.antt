@@ -1,7 +1,7 @@
 use Rattle.std.proofs.Common.{arith, codes}
-use Rattle.report_text.proofs.Numerals.{numeral_of_wide}
+use Rattle.report_events.proofs.Numerals.{numeral_of_wide}
 use Rattle.report_text.proofs.Pushed.{rule_pushed}
-use Rattle.report_text.proofs.Joins.{last_pushed}
+use Rattle.report_events.proofs.Joins.{last_pushed}
 use Rattle.report_text.proofs.lists.push_rule.Goals as goal
 
 pub returns : goal.returns

@@ -1,8 +1,8 @@
 use Rattle.std.proofs.Common.{ℕ, ◌+◌, ◌∷◌, ◌++◌, [], refl, sym, ap, ◌∙◌, arith}
 use Rattle.std.proofs.lemmas.List.{append-nil}
 use Rattle.report_text.specs.Report.{rule_line, rule_lines}
-use Rattle.report_text.specs.Texts.{line_text}
-use Rattle.report_text.proofs.Joins.{lines_on, lines_end}
+use Rattle.report_events.specs.Texts.{line_text}
+use Rattle.report_events.proofs.Joins.{lines_on, lines_end}
 use Rattle.report_text.proofs.lists.push_rules.Goals as goal
 
 pub loop-place-preserved : goal.loop-place-preserved

@@ -1,10 +1,10 @@
 use Rattle.std.proofs.Common.{codes}
-use Rattle.report_text.specs.Numerals.{numeral}
+use Rattle.report_events.specs.Numerals.{numeral}
 use Rattle.hex.specs.Hex.{encode_lower}
 use Rattle.inode_meta.specs.declared.measurement.Bank.TheVariants.{Sha1, Sha256}
 use Rattle.pcr_bank.specs.Banks.{register}
 use Rattle.report_text.proofs.Pushed.{register_pushed}
-use Rattle.report_text.proofs.Joins.{last_pushed}
+use Rattle.report_events.proofs.Joins.{last_pushed}
 use Rattle.report_text.proofs.lists.push_values.Goals as goal
 
 pub returns : goal.returns

@@ -1,9 +1,9 @@
 use Rattle.std.proofs.Common.{◌∷◌, ◌++◌, [], refl, sym, ap, ◌∙◌}
-use Rattle.report_text.specs.Numerals.{numeral}
+use Rattle.report_events.specs.Numerals.{numeral}
 use Rattle.std.proofs.lemmas.List.{append-nil}
 use Rattle.report_text.specs.Report.{reply_lines, reply_words}
-use Rattle.report_text.specs.Texts.{line_text}
-use Rattle.report_text.proofs.Joins.{lines_on, lines_end}
+use Rattle.report_events.specs.Texts.{line_text}
+use Rattle.report_events.proofs.Joins.{lines_on, lines_end}
 use Rattle.report_text.proofs.tasks.push_replies.Goals as goal
 
 pub loop-call-preserved : goal.loop-call-preserved

@@ -1,6 +1,6 @@
 use Rattle.std.proofs.Common.{refl}
 use Rattle.report_text.specs.Report.{all_task_lines, task_lines}
-use Rattle.report_text.proofs.Joins.{lines_end, lines_on}
+use Rattle.report_events.proofs.Joins.{lines_end, lines_on}
 use Rattle.report_text.proofs.tasks.push_tasks.Goals as goal
 
 pub loop-number-preserved : goal.loop-number-preserved

@@ -1,10 +1,10 @@
 use Rattle.std.proofs.Common.{◌≡◌, ap, codes}
 use Rattle.std.specs.Prelude.{not}
-use Rattle.report_text.specs.Numerals.{numeral}
+use Rattle.report_events.specs.Numerals.{numeral}
 use Rattle.run_model.specs.EndedValue.{EndedValue}
 use Rattle.report_text.specs.Summary.{event_count, is_ok_reply, reply_count}
 use Rattle.report_text.proofs.Summed.{counts_pushed}
-use Rattle.report_text.proofs.Joins.{last_pushed}
+use Rattle.report_events.proofs.Joins.{last_pushed}
 use Rattle.report_text.proofs.totals.push_counts.Goals as goal
 
 pub returns : goal.returns

@@ -1,9 +1,9 @@
 use Rattle.std.proofs.Common.{◌≡◌, length, ap, codes}
-use Rattle.report_text.specs.Numerals.{numeral}
+use Rattle.report_events.specs.Numerals.{numeral}
 use Rattle.std.specs.List.{count_by}
 use Rattle.run_model.specs.EndedValue.{EndedValue}
 use Rattle.report_text.proofs.Summed.{sizes_pushed}
-use Rattle.report_text.proofs.Joins.{last_pushed}
+use Rattle.report_events.proofs.Joins.{last_pushed}
 use Rattle.report_text.proofs.totals.push_sizes.Goals as goal
 
 pub returns : goal.returns

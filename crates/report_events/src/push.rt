@@ -1,26 +1,11 @@
-// Appends numbers and words to a text, and cuts a long text into pieces.
+// Appends numbers and words to a text.
 
-ghost use Rattle.std.specs.Prelude.{◌≡◌, [], ◌∷◌, ◌++◌, map, IfOk, OnOk};
-ghost use Rattle.report_text.specs.Numerals.{numeral};
+ghost use Rattle.std.specs.Prelude.{◌≡◌, [], ◌∷◌, ◌++◌, map, OnOk};
+ghost use Rattle.report_events.specs.Numerals.{numeral};
 ghost use Rattle.std.specs.List.{join_with_byte};
 
-use ima_io::Pieces;
 use itoa::Buffer;
-use std::alloc::{AllocError as OutOfMemory, Global};
-
-// The length in bytes at which a text is cut off as a piece.
-const PIECE: usize = 32_768;
-
-// Moves the text to `out` if it is long enough for a piece, and returns the text to go on with.
-pub fn cut(alloc: Global, out: &mut Pieces, piece: Vec<u8>) -> Result<Vec<u8>, OutOfMemory>
-    ensures { IfOk result (λ rest. out.new ++ rest.items ≡ out.old ++ piece.items) }
-{
-    if piece.len() < PIECE {
-        return Ok(piece);
-    }
-    out.push(piece)?;
-    Ok(Vec::new(alloc))
-}
+use std::alloc::AllocError as OutOfMemory;
 
 /// Prints a number in decimal.
 #[tactic(auto, using(crate::proofs::Numerals::numeral_of_word))]
@@ -43,7 +28,7 @@ pub fn push_numbers(out: &mut Vec<u8>, words: &[u8], numbers: &[u64]) -> Result<
     Ok(())
 }
 
-// Prints two words with a space between them.
+/// Prints two words with a space between them.
 pub fn push_pair(out: &mut Vec<u8>, first: &[u8], second: &[u8]) -> Result<(), OutOfMemory>
     ensures { OnOk result (out.new.items
         ≡ out.old.items ++ join_with_byte 32 (first.now ∷ second.now ∷ [])) }
@@ -53,7 +38,7 @@ pub fn push_pair(out: &mut Vec<u8>, first: &[u8], second: &[u8]) -> Result<(), O
     out.extend_from_slice(second)
 }
 
-// Prints the words, a space and the number.
+/// Prints the words, a space and the number.
 pub fn push_numbered(out: &mut Vec<u8>, words: &[u8], n: u64) -> Result<(), OutOfMemory>
     ensures { OnOk result (out.new.items
         ≡ out.old.items ++ join_with_byte 32 (words.now ∷ numeral n ∷ [])) }
@@ -61,14 +46,4 @@ pub fn push_numbered(out: &mut Vec<u8>, words: &[u8], n: u64) -> Result<(), OutO
     out.extend_from_slice(words)?;
     out.extend_from_slice(b" ")?;
     push_number(out, n)
-}
-
-// The same for a number of up to 128 bits.
-pub fn push_sum(out: &mut Vec<u8>, words: &[u8], n: u128) -> Result<(), OutOfMemory>
-    ensures { OnOk result (out.new.items
-        ≡ out.old.items ++ join_with_byte 32 (words.now ∷ numeral n ∷ [])) }
-{
-    out.extend_from_slice(words)?;
-    out.extend_from_slice(b" ")?;
-    out.extend_from_slice(Buffer::new().format(n).as_bytes())
 }

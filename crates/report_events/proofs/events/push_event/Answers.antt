@@ -1,6 +1,6 @@
 use Rattle.std.proofs.Common.{codes}
-use Rattle.report_text.proofs.Joins.{event_pushed, last_pushed}
-use Rattle.report_text.proofs.events.push_event.Goals as goal
+use Rattle.report_events.proofs.Joins.{event_pushed, last_pushed}
+use Rattle.report_events.proofs.events.push_event.Goals as goal
 
 pub returns : goal.returns
 returns c =

@@ -2,8 +2,8 @@
 
 ghost use Rattle.std.specs.Prelude.{◌≡◌, ◌++◌, OnOk};
 ghost use Rattle.std.specs.List.{join_with_byte};
-ghost use Rattle.report_text.specs.Texts.{admitted_text, placed_text, verdict_text};
-ghost use Rattle.report_text.specs.Words.{told_words};
+ghost use Rattle.report_events.specs.Texts.{admitted_text, placed_text, verdict_text};
+ghost use Rattle.report_events.specs.Words.{told_words};
 
 use crate::acts::push_flag;
 use crate::push::{push_number, push_numbered, push_pair};

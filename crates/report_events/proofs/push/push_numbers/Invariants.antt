@@ -1,8 +1,8 @@
 -- the words, and the numbers so far
 use Rattle.std.proofs.Common.{◌≡◌, ◌∷◌, ◌++◌, map, take}
-use Rattle.report_text.specs.Numerals.{numeral}
+use Rattle.report_events.specs.Numerals.{numeral}
 use Rattle.std.specs.List.{join_with_byte}
-use Rattle.report_text.proofs.push.push_numbers.Given as goal
+use Rattle.report_events.proofs.push.push_numbers.Given as goal
 
 abbrev pub invariant-loop-number : goal.invariant-loop-number
 invariant-loop-number l =

@@ -1,7 +1,7 @@
 -- The words of `Words` as texts: parts of a line with the space before or after them, each of which
 -- may be absent.
 use Rattle.std.specs.Prelude.{ℕ, Bool, true, false, ◌||◌, List, [], ◌∷◌, ◌++◌, codes, Option, Some, None, unwrap_or, if◌then◌else◌}
-use Rattle.report_text.specs.Numerals.{numeral}
+use Rattle.report_events.specs.Numerals.{numeral}
 use Rattle.std.specs.List.{join_with_byte}
 use Rattle.ima_templates.specs.declared.entry.Placed.{Placed}
 use Rattle.ima_templates.specs.declared.entry.Placed.TheVariants.{Added, Already}
@@ -10,9 +10,9 @@ use Rattle.inode_meta.specs.declared.measurement.Template.{Template}
 use Rattle.label_values.specs.Verdicts.{cause_word}
 use Rattle.label_values.specs.declared.verdict.Verdict.{Verdict}
 use Rattle.label_values.specs.declared.verdict.Verdict.TheVariants.{Pass, Deny}
-use Rattle.policy_text.specs.rules.RuleValue.{is_any}
-use Rattle.policy_text.specs.rules.declared.access.Action.{Action}
-use Rattle.report_text.specs.Words.{Line}
+use Rattle.policy_rules.specs.RuleValue.{is_any}
+use Rattle.policy_rules.specs.declared.access.Action.{Action}
+use Rattle.report_events.specs.Words.{Line}
 
 -- a line with its newline
 abbrev pub line_text : Line → List ℕ

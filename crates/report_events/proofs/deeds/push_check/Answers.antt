@@ -1,6 +1,6 @@
-use Rattle.report_text.proofs.Checks.{check_pushed}
-use Rattle.report_text.proofs.Joins.{when_ok}
-use Rattle.report_text.proofs.deeds.push_check.Goals as goal
+use Rattle.report_events.proofs.Checks.{check_pushed}
+use Rattle.report_events.proofs.Joins.{when_ok}
+use Rattle.report_events.proofs.deeds.push_check.Goals as goal
 
 pub returns : goal.returns
 returns c = when_ok c.push_acts.result c.push_acts.ensures

@@ -1,6 +1,6 @@
 -- The words of an event: its place, the step that made it, its deed and its outcome.
 use Rattle.std.specs.Prelude.{ℕ, ◌+◌, Bool, true, false, List, [], ◌∷◌, ◌++◌, length, codes, Option, Some, None, unwrap_or, if◌then◌else◌}
-use Rattle.report_text.specs.Numerals.{numeral}
+use Rattle.report_events.specs.Numerals.{numeral}
 use Rattle.std.specs.Fmt.{digits}
 use Rattle.std.specs.List.{join_with_byte}
 use Rattle.ima_templates.specs.declared.entry.Placed.{Placed}
@@ -11,9 +11,9 @@ use Rattle.inode_meta.specs.Words.{evm_status_word, template_word}
 use Rattle.label_values.specs.Verdicts.{cause_word}
 use Rattle.label_values.specs.declared.verdict.Verdict.{Verdict}
 use Rattle.label_values.specs.declared.verdict.Verdict.TheVariants.{Pass, Deny}
-use Rattle.policy_text.specs.rules.RuleValue.{is_any}
-use Rattle.policy_text.specs.rules.ValueTexts.{func_word}
-use Rattle.policy_text.specs.rules.declared.access.Action.{Action}
+use Rattle.policy_rules.specs.RuleValue.{is_any}
+use Rattle.policy_rules.specs.ValueTexts.{func_word}
+use Rattle.policy_rules.specs.declared.access.Action.{Action}
 use Rattle.inode_events.specs.declared.deed.Change.{Change}
 use Rattle.inode_events.specs.declared.deed.Change.TheVariants as change
 use Rattle.inode_events.specs.declared.deed.Deed.{Deed}

@@ -1,12 +1,12 @@
 // The actions of a check, and the number of rules that it saw.
 
 ghost use Rattle.std.specs.Prelude.{◌≡◌, ◌++◌, OnOk};
-ghost use Rattle.policy_text.specs.rules.RuleValue.{is_any};
-ghost use Rattle.report_text.specs.Texts.{acts_text, appraise_text, flag_text, measure_text, rules_text};
+ghost use Rattle.policy_rules.specs.RuleValue.{is_any};
+ghost use Rattle.report_events.specs.Texts.{acts_text, appraise_text, flag_text, measure_text, rules_text};
 
 use crate::push::push_number;
 use inode_meta::{Need, Template};
-use policy_text::Action;
+use policy_rules::Action;
 use std::alloc::AllocError as OutOfMemory;
 
 // Prints the number of rules that the check saw, if the run can append rules.

@@ -1,17 +1,17 @@
 -- The text of a check's deed.
 use Rattle.std.proofs.lemmas.List.{append-nil}
 use Rattle.std.proofs.Common.{◌≡◌, ℕ, Bool, true, false, ◌||◌, List, [], ◌∷◌, ◌++◌, codes, unwrap_or, if◌then◌else◌, refl, sym, ap, ◌∙◌, append_assoc}
-use Rattle.report_text.specs.Numerals.{numeral}
+use Rattle.report_events.specs.Numerals.{numeral}
 use Rattle.std.specs.List.{join_with_byte}
 use Rattle.inode_meta.specs.Words.{template_word}
 use Rattle.inode_meta.specs.declared.measurement.Template.{Template}
-use Rattle.policy_text.specs.rules.RuleValue.{is_any}
-use Rattle.policy_text.specs.rules.ValueTexts.{func_word}
-use Rattle.policy_text.specs.rules.declared.access.Action.{Action}
-use Rattle.policy_text.specs.rules.declared.rule.Func.{Func}
+use Rattle.policy_rules.specs.RuleValue.{is_any}
+use Rattle.policy_rules.specs.ValueTexts.{func_word}
+use Rattle.policy_rules.specs.declared.access.Action.{Action}
+use Rattle.policy_rules.specs.declared.rule.Func.{Func}
 use Rattle.inode_events.specs.declared.deed.Deed.TheVariants as deed
-use Rattle.report_text.specs.Words.{Line, acts_words, appraise_words, deed_words, flag_words, measure_words, or_dash}
-use Rattle.report_text.specs.Texts.{acts_text, appraise_text, flag_text, measure_text, rules_text}
+use Rattle.report_events.specs.Words.{Line, acts_words, appraise_words, deed_words, flag_words, measure_words, or_dash}
+use Rattle.report_events.specs.Texts.{acts_text, appraise_text, flag_text, measure_text, rules_text}
 
 abbrev after : Line → List ℕ
 after [] = []

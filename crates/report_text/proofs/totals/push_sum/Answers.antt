@@ -1,7 +1,7 @@
 use Rattle.std.proofs.Common.{◌<◌, ◌^◌, arith, rules}
 use Rattle.std.proofs.lemmas.Grind.{common_steps}
-use Rattle.report_text.proofs.Numerals.{numeral_of_wide}
-use Rattle.report_text.proofs.push.push_sum.Goals as goal
+use Rattle.report_events.proofs.Numerals.{numeral_of_wide}
+use Rattle.report_text.proofs.totals.push_sum.Goals as goal
 
 pub returns : goal.returns
 returns c =

@@ -1,9 +1,9 @@
 use Rattle.std.proofs.Common.{◌∷◌, ◌++◌, [], refl, sym, ap, ◌∙◌}
 use Rattle.std.proofs.lemmas.List.{append-nil}
-use Rattle.report_text.specs.Texts.{line_text}
-use Rattle.report_text.specs.Words.{event_lines, event_words}
-use Rattle.report_text.proofs.Joins.{lines_on, lines_end}
-use Rattle.report_text.proofs.events.push_events.Goals as goal
+use Rattle.report_events.specs.Texts.{line_text}
+use Rattle.report_events.specs.Words.{event_lines, event_words}
+use Rattle.report_events.proofs.Joins.{lines_on, lines_end}
+use Rattle.report_events.proofs.events.push_events.Goals as goal
 
 pub loop-place-preserved : goal.loop-place-preserved
 loop-place-preserved c =

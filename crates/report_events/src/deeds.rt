@@ -2,18 +2,17 @@
 
 ghost use Rattle.std.specs.Prelude.{◌≡◌, [], ◌∷◌, ◌++◌, OnOk, codes};
 ghost use Rattle.std.specs.List.{join_with_byte};
-ghost use Rattle.policy_text.specs.rules.ValueTexts.{func_word};
-ghost use Rattle.report_text.specs.Texts.{acts_text, rules_text};
-ghost use Rattle.report_text.specs.Words.{change_words, deed_words, how_words, length_word};
+ghost use Rattle.policy_rules.specs.ValueTexts.{func_word};
+ghost use Rattle.report_events.specs.Texts.{acts_text, rules_text};
+ghost use Rattle.report_events.specs.Words.{change_words, deed_words, how_words, length_word};
 
 use crate::acts::{push_acts, push_rules};
 use crate::push::{push_number, push_numbered, push_numbers, push_pair};
-use inode_events::{Change, Deed, How};
+use inode_events::{BoxedValue, Change, Deed, How};
 use inode_meta::Template;
-use policy_text::{Action, Func};
+use policy_rules::{Action, Func};
 use std::alloc::AllocError as OutOfMemory;
 use std::io::Write;
-use xattr_store::Bytes;
 
 // Prints a deed. `default` is the template of a measurement whose rule names none; `grows` says
 // whether the run can append rules.
@@ -47,7 +46,7 @@ pub fn push_deed(
             )
         }
         Deed::Trunc { file, len } => push_numbers(out, b"trunc", &[*file, *len]),
-        Deed::SetAttr { name, value, .. } => push_set_attr(out, name.as_slice(), value.get()),
+        Deed::SetAttr { name, value, .. } => push_set_attr(out, name.as_slice(), value),
         Deed::SetMeta { change } => push_change(out, *change),
         Deed::Close { file } => push_numbered(out, b"close", *file),
         Deed::CloseTake { file } => push_numbered(out, b"close-take", *file),
@@ -85,7 +84,7 @@ fn push_check(
     push_acts(out, default, action)
 }
 
-fn push_set_attr(out: &mut Vec<u8>, name: &[u8], value: &Option<Bytes>) -> Result<(), OutOfMemory>
+fn push_set_attr(out: &mut Vec<u8>, name: &[u8], value: &BoxedValue) -> Result<(), OutOfMemory>
     ensures { OnOk result (out.new.items ≡ out.old.items ++ join_with_byte 32
         (codes "set-attr" ∷ name.now ∷ length_word value.now ∷ [])) }
 {
@@ -121,10 +120,10 @@ fn how_text(how: How) -> &'static str
 }
 
 // Prints the length of the new value, or a dash if the attribute is removed.
-fn push_length(out: &mut Vec<u8>, value: &Option<Bytes>) -> Result<(), OutOfMemory>
+fn push_length(out: &mut Vec<u8>, value: &BoxedValue) -> Result<(), OutOfMemory>
     ensures { OnOk result (out.new.items ≡ out.old.items ++ length_word value.now) }
 {
-    match value {
+    match value.get() {
         Some(value) => push_number(out, value.as_slice().len() as u64),
         None => out.extend_from_slice(b"-"),
     }

@@ -2,8 +2,8 @@
 
 ghost use Rattle.std.specs.Prelude.{◌≡◌, ◌∷◌, ◌++◌, OnOk};
 ghost use Rattle.text_forms.specs.Words.{text_of};
-ghost use Rattle.report_text.specs.Texts.{line_text};
-ghost use Rattle.report_text.specs.Words.{event_lines, event_words, who_word};
+ghost use Rattle.report_events.specs.Texts.{line_text};
+ghost use Rattle.report_events.specs.Words.{event_lines, event_words, who_word};
 
 use crate::deeds::push_deed;
 use crate::push::push_number;
@@ -12,6 +12,8 @@ use inode_events::{Deed, Event};
 use inode_meta::{Template, Who};
 use std::alloc::AllocError as OutOfMemory;
 
+/// Prints the events of a journal, one line each. `default` is the template of a measurement whose
+/// rule names none; `grows` says whether the run can append rules.
 pub fn push_events(
     out: &mut Vec<u8>,
     default: Template,

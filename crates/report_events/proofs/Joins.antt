@@ -1,6 +1,6 @@
 -- Words joined by spaces, and lines appended one after another.
 use Rattle.std.proofs.Common.{◌≡◌, ◌≢◌, ℕ, suc, ◌+◌, ◌<◌, ◌≤◌, Bool, true, List, [], ◌∷◌, ◌++◌, take, drop, map, get_or, length, codes, Option, Some, None, Result, Ok, Err, cond, refl, sym, ap, ◌∙◌, append_assoc, drop-cons, arith}
-use Rattle.report_text.specs.Numerals.{numeral}
+use Rattle.report_events.specs.Numerals.{numeral}
 use Rattle.std.specs.List.{join_with_byte}
 use Rattle.std.specs.Result.{OnOk, is_ok}
 use Rattle.std.proofs.lemmas.Bool.{false≢true}
@@ -19,8 +19,8 @@ use Rattle.inode_events.specs.declared.told.Told.{Told}
 use Rattle.inode_events.specs.declared.told.Told.TheVariants as told
 use Rattle.text_forms.specs.Tokens.{is_filled}
 use Rattle.text_forms.specs.Words.{text_of}
-use Rattle.report_text.specs.Texts.{line_text}
-use Rattle.report_text.specs.Words.{Line, admitted_words, deed_words, placed_words, step_words, told_words, verdict_words, who_word}
+use Rattle.report_events.specs.Texts.{line_text}
+use Rattle.report_events.specs.Words.{Line, admitted_words, deed_words, placed_words, step_words, told_words, verdict_words, who_word}
 
 -- one more word at the end of a line
 join_more : (w : List ℕ) (ws : Line) (v : List ℕ)

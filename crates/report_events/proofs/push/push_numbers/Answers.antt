@@ -1,9 +1,9 @@
 use Rattle.std.proofs.Common.{ℕ, List, ◌∷◌, ◌++◌, get_or, map, ap, ◌∙◌}
-use Rattle.report_text.specs.Numerals.{numeral}
+use Rattle.report_events.specs.Numerals.{numeral}
 use Rattle.std.specs.List.{join_with_byte}
 use Rattle.std.proofs.lemmas.List.{take_all}
-use Rattle.report_text.proofs.Joins.{numbers_on}
-use Rattle.report_text.proofs.push.push_numbers.Goals as goal
+use Rattle.report_events.proofs.Joins.{numbers_on}
+use Rattle.report_events.proofs.push.push_numbers.Goals as goal
 
 pub loop-number-preserved : goal.loop-number-preserved
 loop-number-preserved c =

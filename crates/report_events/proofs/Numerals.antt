@@ -8,7 +8,7 @@ use Rattle.std.proofs.lemmas.Bool.Decides.{nat_tests}
 use Rattle.std.proofs.lemmas.Fmt.{decimal_digit, decimal_step_wide}
 use Rattle.std.proofs.lemmas.List.Folds.{list_all-append}
 use Rattle.text_forms.specs.Words.{is_clean, is_clean_byte}
-use Rattle.report_text.specs.Numerals.{numeral, numeral_in}
+use Rattle.report_events.specs.Numerals.{numeral, numeral_in}
 
 -- ---- the library's digits
 

@@ -1,0 +1,4 @@
+pub mod Numerals
+pub mod Checks
+pub mod Joins
+mod Examples
