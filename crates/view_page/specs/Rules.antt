@@ -1,11 +1,7 @@
 -- The rules of the classes of a drawing, which are a constant of the program.
 use Rattle.std.specs.Prelude.{ℕ, List}
-use denote.Ref.{Bor}
 use Rattle.std.specs.List.{flat_map}
 use Rattle.view_page.specs.declared.rules.TheConstants.{RULES}
-
-abbrev pub lines_of : List (Bor (List ℕ)) → List ℕ
-lines_of lines = flat_map (λ l. l.now) lines
 
 unfoldable pub rules : List ℕ
 rules = flat_map (λ l. l.now) RULES

@@ -1,13 +1,8 @@
 -- Words and parts of the lines of a report, as ranges of its text.
-use Rattle.std.specs.Prelude.{ℕ, suc, ◌+◌, ◌-◌, ◌==◌, min, List, [], ◌∷◌, if◌then◌else◌}
-use Rattle.view_page.specs.Pieces.{text_at}
+use Rattle.std.specs.Prelude.{ℕ, ◌+◌, ◌-◌, min, List}
+use Rattle.view_page.specs.Pieces.{text_at, word_len}
 use Rattle.view_journal.specs.reading.words.declared.event.Span.{Span}
 use Rattle.view_journal.specs.reading.lines.declared.report.InodeHead.{InodeHead}
-
--- the length of the first word
-abbrev pub word_len : List ℕ → ℕ
-word_len [] = 0
-word_len (b ∷ bytes) = if b == 32 then 0 else suc (word_len bytes)
 
 abbrev pub first_word : List ℕ → Span → Span
 first_word text span = record { at = span.at; len = word_len (text_at text span) }

@@ -39,8 +39,7 @@ fn push_byte(out: &mut Vec<u8>, byte: u8) -> Result<(), OutOfMemory>
 pub fn push_all(out: &mut Vec<u8>, bytes: &[u8]) -> Result<(), OutOfMemory>
     ensures { OnOk result (out.new.items ≡ out.old.items ++ bytes.now) }
 {
-    out.extend_from_slice(bytes)?;
-    Ok(())
+    out.extend_from_slice(bytes)
 }
 
 fn is_printing(byte: u8) -> bool

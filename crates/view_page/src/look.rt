@@ -90,7 +90,8 @@ pub fn push_legend(out: &mut Vec<u8>) -> Result<(), OutOfMemory>
     push_lines(out, &LEGEND)
 }
 
-fn push_lines(out: &mut Vec<u8>, lines: &[&[u8]]) -> Result<(), OutOfMemory>
+// Appends lines of the program.
+pub fn push_lines(out: &mut Vec<u8>, lines: &[&[u8]]) -> Result<(), OutOfMemory>
     ensures { OnOk result (out.new.items ≡ out.old.items ++ lines_of lines.now) }
 {
     for line in lines {

@@ -7,7 +7,7 @@ use crate::escape::push_all;
 use crate::html::{Frame, Section, Table, frame_bytes, section_bytes, table_bytes};
 use crate::look::{push_legend, push_style};
 use crate::own::Side;
-use crate::pieces::{Piece, push_pieces};
+use crate::pieces::{Piece, push_piece};
 use crate::told::{Overview, Told, overview_bytes, told_bytes};
 use report_read::Span;
 use std::alloc::AllocError as OutOfMemory;
@@ -55,9 +55,9 @@ fn push_part(out: &mut Vec<u8>, text: &[u8], part: Part) -> Result<(), OutOfMemo
         Part::Side(side) => push_all(out, side_bytes(side)),
         Part::Style => push_style(out),
         Part::Legend => push_legend(out),
-        Part::Number(number) => push_pieces(out, text, &[Piece::Number(number)]),
-        Part::Text(span) => push_pieces(out, text, &[Piece::Text(span)]),
-        Part::Drawn(piece) => push_pieces(out, text, &[piece]),
+        Part::Number(number) => push_piece(out, text, Piece::Number(number)),
+        Part::Text(span) => push_piece(out, text, Piece::Text(span)),
+        Part::Drawn(piece) => push_piece(out, text, piece),
     }
 }
 

@@ -1,10 +1,11 @@
 // The pieces of which a page is made.
 
-ghost use Rattle.std.specs.Prelude.{◌≡◌, ◌++◌, ◌≤◌, length, OnOk};
+ghost use Rattle.std.specs.Prelude.{◌≡◌, ◌++◌, OnOk};
 ghost use Rattle.view_page.specs.Pieces as spec;
 
 use crate::escape::push_text;
 use crate::own::{Own, push_own};
+use crate::words::{text_at, word_len};
 use report_read::Span;
 use report_text::push_number;
 use std::alloc::AllocError as OutOfMemory;
@@ -33,7 +34,8 @@ pub fn push_pieces(out: &mut Vec<u8>, text: &[u8], pieces: &[Piece]) -> Result<(
     Ok(())
 }
 
-fn push_piece(out: &mut Vec<u8>, text: &[u8], piece: Piece) -> Result<(), OutOfMemory>
+// Appends one piece.
+pub fn push_piece(out: &mut Vec<u8>, text: &[u8], piece: Piece) -> Result<(), OutOfMemory>
     ensures { OnOk result (out.new.items ≡ out.old.items ++ spec.bytes_of text.now piece) }
 {
     match piece {
@@ -45,16 +47,6 @@ fn push_piece(out: &mut Vec<u8>, text: &[u8], piece: Piece) -> Result<(), OutOfM
             push_text(out, word_at(outcome_in(text_at(text, span)), spaces))
         }
     }
-}
-
-// The range of the text, as far as the text reaches.
-fn text_at(text: &[u8], span: Span) -> &[u8]
-    ensures { result.now ≡ spec.text_at text.now span }
-{
-    let from = text.len().min(span.at as usize);
-    let rest = &text[from..];
-    let len = rest.len().min(span.len as usize);
-    &rest[..len]
 }
 
 // The word after so many spaces.
@@ -89,17 +81,4 @@ fn first_word(line: &[u8]) -> &[u8]
     ensures { result.now ≡ spec.first_word line.now }
 {
     &line[..word_len(line)]
-}
-
-// How many bytes are before the first space.
-fn word_len(line: &[u8]) -> usize
-    ensures is { result ≡ spec.word_len line.now }
-    ensures within { result ≤ length line.now }
-{
-    for (at, byte) in line.iter().enumerate() {
-        if *byte == b' ' {
-            return at;
-        }
-    }
-    line.len()
 }

@@ -1,9 +1,9 @@
 // The rules of the classes of a drawing.
 
 ghost use Rattle.std.specs.Prelude.{◌≡◌, ◌++◌, OnOk};
-ghost use Rattle.view_page.specs.Rules.{lines_of, rules};
+ghost use Rattle.view_page.specs.Rules.{rules};
 
-use crate::escape::push_all;
+use crate::look::push_lines;
 use std::alloc::AllocError as OutOfMemory;
 
 const RULES: [&[u8]; 21] = [
@@ -35,13 +35,4 @@ pub fn push_rules(out: &mut Vec<u8>) -> Result<(), OutOfMemory>
     ensures { OnOk result (out.new.items ≡ out.old.items ++ rules) }
 {
     push_lines(out, &RULES)
-}
-
-fn push_lines(out: &mut Vec<u8>, lines: &[&[u8]]) -> Result<(), OutOfMemory>
-    ensures { OnOk result (out.new.items ≡ out.old.items ++ lines_of lines.now) }
-{
-    for line in lines {
-        push_all(out, line)?;
-    }
-    Ok(())
 }

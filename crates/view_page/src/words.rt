@@ -1,7 +1,7 @@
 // Words and parts of the lines of a report, as ranges of its text.
 
 ghost use Rattle.std.specs.Prelude.{◌≡◌, ◌≤◌, length};
-ghost use Rattle.view_page.specs.Pieces.{text_at};
+ghost use Rattle.view_page.specs.Pieces.{text_at, word_len};
 ghost use Rattle.view_page.specs.Words as spec;
 
 use report_read::{InodeHead, Span};
@@ -17,9 +17,9 @@ pub fn text_at(text: &[u8], span: Span) -> &[u8]
     &rest[..len]
 }
 
-// The length of the first word.
-fn word_len(bytes: &[u8]) -> usize
-    ensures value { result ≡ spec.word_len bytes.now }
+// The length of the first word: how many bytes are before the first space.
+pub fn word_len(bytes: &[u8]) -> usize
+    ensures value { result ≡ word_len bytes.now }
     ensures within { result ≤ length bytes.now }
 {
     for (i, byte) in bytes.iter().enumerate() {

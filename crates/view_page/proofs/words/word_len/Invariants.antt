@@ -1,5 +1,5 @@
 use Rattle.std.proofs.Common.{◌≡◌, ◌+◌, drop}
-use Rattle.view_page.specs.Words.{word_len}
+use Rattle.view_page.specs.Pieces.{word_len}
 use Rattle.view_page.proofs.words.word_len.Given as goal
 
 -- the word has these bytes, and those of its rest
