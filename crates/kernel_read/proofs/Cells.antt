@@ -188,6 +188,26 @@ module _ (e : Event) (placed : Placed) (h : placed_by e.deed e.told ≡ Some pla
   other_call n k ne = none_for n k (not_both (caller_of e == n + 1) (e.who.call == k)
       (ne_eqb e.who.call k ne))
 
+  -- the event of a call that doesn't read the inode leaves the table
+  pub event_left : (tasks : List (List Call)) (rows : List Row) (i : ℕ)
+      → reads tasks e.who.task e.who.call i ≡ false → (n k : ℕ)
+      → cell rows n k ≡ noted (reads tasks n k i) (cell rows n k) (named_by n k e)
+  event_left tasks rows i unread n k = at (e.who.task == n) refl (e.who.call == k) refl where
+    none : named_by n k e ≡ None
+        → cell rows n k ≡ noted (reads tasks n k i) (cell rows n k) (named_by n k e)
+    none f = sym (ap (λ (o : Option Placed). noted (reads tasks n k i) (cell rows n k) o) f
+        ∙ noted_none (reads tasks n k i) (cell rows n k))
+
+    at : (a : Bool) → (e.who.task == n) ≡ a → (b : Bool) → (e.who.call == k) ≡ b
+        → cell rows n k ≡ noted (reads tasks n k i) (cell rows n k) (named_by n k e)
+    at false p b q = none (other_task n k (λ s. cc (eq-eqb e.who.task n s)))
+    at true p false q = none (other_call n k (λ s. cc (eq-eqb e.who.call k s)))
+    at true p true q =
+        let task : e.who.task ≡ n = eqb-true e.who.task n p in
+        let call : e.who.call ≡ k = eqb-true e.who.call k q in
+        let mine : reads tasks n k i ≡ false = sym (λ j. reads tasks (task j) (call j) i) ∙ unread in
+        sym (ap (λ (r : Bool). noted r (cell rows n k) (named_by n k e)) mine)
+
   -- the table after the event
   pub event_noted : (tasks : List (List Call)) (rows : List Row) (i : ℕ) (d row : Row)
       → HasShape tasks rows → reads tasks e.who.task e.who.call i ≡ true

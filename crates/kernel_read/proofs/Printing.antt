@@ -23,7 +23,7 @@ use Rattle.report_text.specs.Words.{Line, or_dash, placed_words}
 use Rattle.report_text.proofs.Joins.{join_append}
 use Rattle.report_text.proofs.Pushed.{reply_filled}
 use Rattle.kernel_read_laws.specs.Reads.{read_by}
-use Rattle.kernel_read.specs.Lines.{hook_text}
+use Rattle.kernel_read.specs.Lines.{hook_text, table_text}
 use Rattle.kernel_read.specs.Places.{HasPlaces, HasShape, calls_in, cell, flat, placed_at, placed_in, read_at}
 use Rattle.kernel_read.specs.Table.{call_line, call_lines, func_raised, inode_line, load_line, table_lines, task_lines}
 use Rattle.report_text.specs.Numerals.{numeral}
@@ -49,6 +49,20 @@ line_parts n k func path p r =
     ∙ ap (λ (l : List ℕ). l ++ 32 ∷ join_with_byte 32 (reply_words r))
     (join_append (codes "load" ∷ (numeral n ++ 46 ∷ numeral k) ∷ func_word func ∷ path ∷ [])
     (or_dash (placed_words p)) refl (dash_filled p))
+
+hook_gather : (o a n b k c f d : List ℕ)
+    → ((((((o ++ a) ++ n) ++ b) ++ k) ++ c) ++ f) ++ d
+    ≡ o ++ (a ++ n ++ b ++ k ++ c ++ f ++ d)
+hook_gather o a n b k c f d = simp append_assoc
+
+-- the pieces of the front of a line, as the code appends them, are the front
+pub hook_pushed : (o : List ℕ) (n k : ℕ) (func : Func)
+    → ((((((o ++ codes "load ") ++ numeral n) ++ codes ".") ++ numeral k) ++ codes " ")
+    ++ func_word func) ++ codes " "
+    ≡ o ++ hook_text n k func
+hook_pushed o n k func =
+    hook_gather o (codes "load ") (numeral n) (codes ".") (numeral k) (codes " ") (func_word func)
+    (codes " ")
 
 -- the pieces in the order of the code, and in that of the line, are the same pieces
 gather : (o a n b k c f d path e p g r h : List ℕ)
@@ -78,6 +92,16 @@ load_pushed o n k func path p r =
     ∙ sym (spread o (codes "load") (32 ∷ []) (numeral n) (46 ∷ []) (numeral k) (func_word func) path
     (join_with_byte 32 (or_dash (placed_words p))) (join_with_byte 32 (reply_words r)) (10 ∷ []))
     ∙ ap (λ (l : List ℕ). o ++ (l ++ 10 ∷ [])) (sym (line_parts n k func path p r))
+
+-- a text with a line more is longer
+pub line_grows : (old new : List ℕ) (l : Line) → new ≡ old ++ line_text l
+    → length old + 1 ≤ length new
+line_grows old new l h =
+    let all : length new ≡ length old + length (line_text l) =
+    ap (λ (t : List ℕ). length t) h ∙ length-append old (line_text l) in
+    let line : length (line_text l) ≡ length (join_with_byte 32 l) + 1 =
+    length-append (join_with_byte 32 l) (10 ∷ []) in
+    omega arith
 
 -- the line of a call by which the kernel reads an inode
 pub call_pushed : (inodes : List EndedInodeValue) (n k : ℕ) (c : Call) (r : Reply) (func : Func)
@@ -234,14 +258,22 @@ row_has tasks inodes rows n t row has l is at k c e =
 
 -- ---- the whole table
 
+table_gather : (o h e b f : List ℕ) → (((o ++ h) ++ e) ++ b) ++ f ≡ o ++ (h ++ e ++ b ++ f)
+table_gather o h e b f = simp append_assoc
+
 -- the pieces of the table, as the code appends them, are the table
-pub table_pushed : (count : ℕ) (body : List ℕ) (ls : List Line) → count ≡ length ls
-    → body ≡ text_of ls
-    → (((([] ++ join_with_byte 32 (codes "loads" ∷ numeral count ∷ [])) ++ codes "\n") ++ body)
-    ++ codes "end\n") ≡ text_of (table_lines ls)
-table_pushed count body ls c b =
-    (λ i. (((([] ++ join_with_byte 32 (codes "loads" ∷ numeral (c i) ∷ [])) ++ codes "\n") ++ b i)
-    ++ codes "end\n"))
+pub table_pushed : (o : List ℕ) (count : ℕ) (body : List ℕ)
+    → (((o ++ join_with_byte 32 (codes "loads" ∷ numeral count ∷ [])) ++ codes "\n") ++ body)
+    ++ codes "end\n" ≡ o ++ table_text count body
+table_pushed o count body =
+    table_gather o (join_with_byte 32 (codes "loads" ∷ numeral count ∷ [])) (codes "\n") body
+    (codes "end\n")
+
+-- the table, by the text of its lines
+pub table_is : (count : ℕ) (body : List ℕ) (ls : List Line) → count ≡ length ls
+    → body ≡ text_of ls → table_text count body ≡ text_of (table_lines ls)
+table_is count body ls c b =
+    (λ i. table_text (c i) (b i))
     ∙ append_assoc (line_text (codes "loads" ∷ numeral (length ls) ∷ [])) (text_of ls)
     (codes "end\n")
     ∙ ap (λ (l : List ℕ). line_text (codes "loads" ∷ numeral (length ls) ∷ []) ++ l)

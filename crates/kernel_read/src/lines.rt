@@ -66,8 +66,7 @@ fn push_load(
     push_place(out, placed)?;
     out.extend_from_slice(b" ")?;
     push_reply(out, reply)?;
-    out.extend_from_slice(b"\n")?;
-    Ok(())
+    out.extend_from_slice(b"\n")
 }
 
 // Prints the line of an answered call, if the kernel reads a file by it. Returns how many lines.

@@ -1,6 +1,7 @@
 // The table.
 
-ghost use Rattle.std.specs.Prelude.{◌≡◌, IfOk};
+ghost use Rattle.std.specs.Prelude.{◌≡◌, ◌++◌, IfOk, OnOk};
+ghost use Rattle.kernel_read.specs.Lines.{table_text};
 ghost use Rattle.kernel_read.specs.Table.{calls_of, loads_text};
 
 use crate::lines::push_tasks;
@@ -27,9 +28,16 @@ pub fn loads(alloc: Global, script: &Script, ended: &Ended) -> Result<Vec<u8>, O
         inodes,
     )?;
     let mut out = Vec::new(alloc);
-    push_numbers(&mut out, b"loads", &[count])?;
-    out.extend_from_slice(b"\n")?;
-    out.extend_from_slice(lines.as_slice())?;
-    out.extend_from_slice(b"end\n")?;
+    push_table(&mut out, count, lines.as_slice())?;
     Ok(out)
+}
+
+// Prints how many lines there are, the lines, and `end`.
+fn push_table(out: &mut Vec<u8>, count: u64, lines: &[u8]) -> Result<(), OutOfMemory>
+    ensures { OnOk result (out.new.items ≡ out.old.items ++ table_text count lines.now) }
+{
+    push_numbers(out, b"loads", &[count])?;
+    out.extend_from_slice(b"\n")?;
+    out.extend_from_slice(lines)?;
+    out.extend_from_slice(b"end\n")
 }

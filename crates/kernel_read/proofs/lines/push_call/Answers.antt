@@ -1,8 +1,8 @@
-use Rattle.std.proofs.Common.{List, ℕ, ◌≡◌, ◌∷◌, [], ◌++◌, Option, Some, None, length, refl, sym, ◌∙◌, ap}
+use Rattle.std.proofs.Common.{List, ℕ, ◌≡◌, ◌∷◌, [], ◌++◌, Option, Some, None, length, refl, sym, ◌∙◌, ap, arith}
 use Rattle.std.specs.Prelude.{option_map, slice_get}
 use Rattle.std.proofs.lemmas.Bool.{ltb-false}
 use Rattle.std.proofs.lemmas.List.{append-nil}
-use Rattle.std.proofs.lemmas.Option.{slice_get-get_or, slice_get_past, some_pair_parts}
+use Rattle.std.proofs.lemmas.Option.{slice_get-get_or, slice_get_past, slice_get_within, some_pair_parts}
 use Rattle.std.proofs.lemmas.Result.{err_from_is_err_and}
 use Rattle.script_text.specs.events.EndedInode.{EndedInodeValue}
 use Rattle.script_text.specs.events.forms.Words.{text_of}
@@ -12,9 +12,14 @@ use Rattle.script_text.specs.steps.policy.declared.rule.Func.{Func}
 use Rattle.report_text.specs.Texts.{line_text}
 use Rattle.report_text.specs.Words.{Line}
 use Rattle.kernel_read_laws.specs.Reads.{read_by}
+use Rattle.kernel_read.specs.Places.{placed_in}
 use Rattle.kernel_read.specs.Table.{call_line, func_raised, inode_line, load_line}
-use Rattle.kernel_read.proofs.Printing.{call_pushed}
+use Rattle.kernel_read.proofs.Printing.{call_pushed, line_grows}
 use Rattle.kernel_read.proofs.lines.push_call.Goals as goal
+
+pub at-requires : goal.at-requires
+at-requires c = slice_get_within c.args.row.now c.args.call
+    (placed_in c.args.inodes.now c.args.task c.args.call (read_by c.args.what.now)) c.requires
 
 -- the line of the call
 line : (c : goal.In_ok-push_load) → call_line c.args.inodes.now c.args.task c.args.call
@@ -42,6 +47,13 @@ returns-clause-text c =
 
 pub returns-clause-count : goal.returns-clause-count
 returns-clause-count c = sym (ap (λ (l : List Line). length l) (line c))
+
+pub returns-clause-grows : goal.returns-clause-grows
+returns-clause-grows c =
+    let more = line_grows c.args.out.now.items c.push_load.new.out.items
+    (load_line c.args.task c.args.call c.in-Some.func c.as_slice-path.result.now c.at.result
+    c.args.reply.now) c.in_ok-push_load.ensures in
+    omega (arith, c.args.out.now.ok.0, c.push_load.new.out.ok.0)
 
 -- a call that reads no inode has no line
 unread : (inodes : List EndedInodeValue) (n k : ℕ) (c : Call) (r : Reply) (read : Option ℕ)
@@ -77,6 +89,9 @@ returns-in_default-clause-text c = no_text c.args.out.now.items _ (unread_line c
 pub returns-in_default-clause-count : goal.returns-in_default-clause-count
 returns-in_default-clause-count c = sym (ap (λ (l : List Line). length l) (unread_line c))
 
+pub returns-in_default-clause-grows : goal.returns-in_default-clause-grows
+returns-in_default-clause-grows c = omega arith
+
 unknown_line : (c : goal.In_default-get) → call_line c.args.inodes.now c.args.task c.args.call
     c.args.what.now c.args.reply.now (read_by c.args.what.now) ≡ []
 unknown_line c =
@@ -91,6 +106,9 @@ returns-in_default-get-clause-text c = no_text c.args.out.now.items _ (unknown_l
 
 pub returns-in_default-get-clause-count : goal.returns-in_default-get-clause-count
 returns-in_default-get-clause-count c = sym (ap (λ (l : List Line). length l) (unknown_line c))
+
+pub returns-in_default-get-clause-grows : goal.returns-in_default-get-clause-grows
+returns-in_default-get-clause-grows c = omega arith
 
 -- without an answer nothing is said of the line
 pub returns-in_err-push_load-clause-text : goal.returns-in_err-push_load-clause-text

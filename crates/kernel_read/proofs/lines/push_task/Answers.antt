@@ -1,10 +1,21 @@
-use Rattle.std.proofs.Common.{List, ◌≡◌, ℕ, ◌+◌, ◌<◌, ◌++◌, length, drop, refl, arith}
+use Rattle.std.proofs.Common.{List, ◌≡◌, ℕ, ◌+◌, ◌<◌, ◌++◌, length, drop, Some, refl, sym, ◌∙◌, ap, arith}
+use Rattle.std.proofs.lemmas.Option.{slice_get-get_or}
 use Rattle.script_text.specs.steps.declared.call.Call.{Call}
 use Rattle.script_text.specs.steps.declared.reply.Reply.{Reply}
 use Rattle.kernel_read_laws.specs.Reads.{read_by}
 use Rattle.kernel_read.specs.Table.{call_line, call_lines}
 use Rattle.kernel_read.proofs.Printing.{count_end, count_on, no_replies, pairs_end, pairs_more, text_end, text_on}
 use Rattle.kernel_read.proofs.lines.push_task.Goals as goal
+
+pub loop-call-init : goal.loop-call-init
+loop-call-init c = record { text = refl; count = omega arith; grows = omega arith }
+
+pub push_call-requires : goal.push_call-requires
+push_call-requires c =
+    c.requires c.loop-call.call c.index-calls-call.result
+    (slice_get-get_or c.args.calls.now c.loop-call.call c.index-calls-call.result
+    (omega (arith, c.min-call-end.ensures, c.loop-call-test.true))
+    ∙ ap (λ (x : Call). Some x) (sym c.index-calls-call.is))
 
 pub loop-call-preserved : goal.loop-call-preserved
 loop-call-preserved c =

@@ -6,8 +6,16 @@ use Rattle.report_text.specs.Words.{Line}
 use Rattle.kernel_read_laws.specs.model.EndedValue.{EndedTaskValue}
 use Rattle.kernel_read.specs.Places.{calls_in}
 use Rattle.kernel_read.specs.Table.{call_lines, task_lines}
-use Rattle.kernel_read.proofs.Printing.{count_end, count_on, no_tasks, pairs_end, pairs_more, row_has, text_end, text_on}
+use Rattle.kernel_read.proofs.Printing.{count_end, count_on, no_tasks, pairs_end, pairs_more, row_has, row_within, text_end, text_on}
 use Rattle.kernel_read.proofs.lines.push_tasks.Goals as goal
+
+pub loop-task-init : goal.loop-task-init
+loop-task-init c = record { text = refl; count = omega arith; grows = omega arith }
+
+pub bounds-rows-task : goal.bounds-rows-task
+bounds-rows-task c =
+    row_within c.args.tasks.now c.args.rows.now c.loop-task.task c.requires.shape
+    (omega (arith, c.min-task-end.ensures, c.loop-task-test.true))
 
 pub push_task-requires : goal.push_task-requires
 push_task-requires c =

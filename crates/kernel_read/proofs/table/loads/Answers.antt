@@ -1,14 +1,13 @@
-use Rattle.std.proofs.Common.{List, ℕ, ◌≡◌, ◌∷◌, [], ◌++◌, codes, length, ◌∙◌, ap}
-use Rattle.std.specs.List.{join_with_byte}
+use Rattle.std.proofs.Common.{List, ℕ, ◌≡◌, ◌++◌, length, ◌∙◌, ap}
 use Rattle.script_text.specs.ScriptValue.{ScriptValue}
 use Rattle.script_text.specs.events.forms.Words.{text_of}
 use Rattle.report_text.specs.Words.{Line}
 use Rattle.kernel_read_laws.specs.model.EndedValue.{EndedValue}
+use Rattle.kernel_read.specs.Lines.{table_text}
 use Rattle.kernel_read.specs.Places.{calls_in}
 use Rattle.kernel_read.specs.Table.{calls_of, loads_of, task_lines}
-use Rattle.kernel_read.proofs.Printing.{table_pushed}
+use Rattle.kernel_read.proofs.Printing.{table_is}
 use Rattle.kernel_read.proofs.table.loads.Goals as goal
-use Rattle.report_text.specs.Numerals.{numeral}
 
 pub returns : goal.returns
 returns c =
@@ -28,14 +27,9 @@ returns c =
     let count : c.in_ok-count.count
     ≡ length (loads_of (calls_of c.args.script.now) c.args.ended.now) =
     c.in_ok-count.ensures.count ∙ ap (λ (l : List Line). length l) same in
-    let head : c.extend_from_slice.new.self.items
-    ≡ ([] ++ join_with_byte 32 (codes "loads" ∷ numeral c.in_ok-count.count ∷ [])) ++ codes "\n" =
-    c.in_ok-extend_from_slice.ensures.items
-    ∙ ap (λ (l : List ℕ). l ++ codes "\n") (c.in_ok-push_numbers.ensures
-    ∙ ap (λ (l : List ℕ). l ++ join_with_byte 32 (codes "loads" ∷ numeral c.in_ok-count.count ∷ []))
-    c.new-out.ensures.items) in
-    c.in_ok-extend_from_slice-3.ensures.items
-    ∙ ap (λ (l : List ℕ). l ++ codes "end\n") (c.in_ok-extend_from_slice-2.ensures.items
-    ∙ (λ i. head i ++ c.as_slice-3.ensures.value i))
-    ∙ table_pushed c.in_ok-count.count c.push_tasks.new.out.items
-    (loads_of (calls_of c.args.script.now) c.args.ended.now) count body
+    c.in_ok-push_table.ensures
+    ∙ ap (λ (l : List ℕ). l ++ table_text c.in_ok-count.count c.as_slice-3.result.now)
+    c.new-out.ensures.items
+    ∙ table_is c.in_ok-count.count c.as_slice-3.result.now
+    (loads_of (calls_of c.args.script.now) c.args.ended.now) count
+    (c.as_slice-3.ensures.value ∙ body)
