@@ -92,6 +92,10 @@ check_outcome ws = or_else (one_of ((codes "quiet", outcome.Quiet) ∷ []) ws) (
 
 -- ---- grants
 
+-- the place of an entry, of which this is said
+abbrev pub place_in : Placed → Words → Option (Placed × ℕ × Words)
+place_in said ws = number_in ws >>= λ p. Some (said, p.0, p.1)
+
 abbrev pub already_by : Words → Option Words → Option (Placed × ℕ × Words)
 already_by ws None = Some (placed.NotMeasured, 0, ws)
 already_by ws (Some rest) = number_in rest >>= λ p. Some (placed.Already, p.0, p.1)

@@ -6,7 +6,7 @@ ghost use Rattle.report_words.specs.Forms.{after_by};
 
 use crate::event::Deed;
 use crate::forms::{after, after_pcr, number_in, without};
-use crate::tables::is_among;
+use crate::tables::{after_one_of, is_among};
 
 // The names of templates, the first words of acts, and the names of functions.
 const TEMPLATES: [&[u8]; 4] = [b"ima", b"ima-ng", b"ima-sig", b"ima-buf"];
@@ -32,36 +32,18 @@ const FUNCS: [&[u8]; 14] = [
     b"MMAP_CHECK_REQPROT",
 ];
 
-fn is_template(word: &[u8]) -> bool
-    ensures { result ≡ spec.is_template word.now }
-{
-    is_among(&TEMPLATES, word)
-}
-
-fn is_func(word: &[u8]) -> bool
-    ensures { result ≡ spec.is_func word.now }
-{
-    is_among(&FUNCS, word)
-}
-
 fn after_template<'w>(words: &'w [&'w [u8]]) -> Option<&'w [&'w [u8]]>
     ensures { option_map (λ r. map (λ w. w.now) r.now) result
         ≡ after_by spec.is_template (map (λ w. w.now) words.now) }
 {
-    match words {
-        [] => None,
-        [first, rest @ ..] => if is_template(first) { Some(rest) } else { None },
-    }
+    after_one_of(&TEMPLATES, words)
 }
 
 fn after_func<'w>(words: &'w [&'w [u8]]) -> Option<&'w [&'w [u8]]>
     ensures { option_map (λ r. map (λ w. w.now) r.now) result
         ≡ after_by spec.is_func (map (λ w. w.now) words.now) }
 {
-    match words {
-        [] => None,
-        [first, rest @ ..] => if is_func(first) { Some(rest) } else { None },
-    }
+    after_one_of(&FUNCS, words)
 }
 
 // The words after `rules N`, if it is there.
@@ -92,19 +74,17 @@ fn measured<'w>(words: &'w [&'w [u8]]) -> Option<&'w [&'w [u8]]>
     }
 }
 
-fn is_appraise(word: &[u8]) -> bool
-    ensures { result ≡ spec.is_appraise word.now }
-{
-    is_among(&APPRAISALS, word)
-}
-
 // The words after `appraise` or `appraise-sig`, if one of them is there.
 fn appraised<'w>(words: &'w [&'w [u8]]) -> &'w [&'w [u8]]
     ensures { map (λ w. w.now) result.now ≡ spec.appraised (map (λ w. w.now) words.now) }
 {
     match words {
         [] => words,
-        [first, rest @ ..] => if is_appraise(first) { rest } else { words },
+        [first, rest @ ..] => if is_among(&APPRAISALS, first) {
+            rest
+        } else {
+            words
+        },
     }
 }
 
@@ -132,14 +112,8 @@ fn begins_with_act(words: &[&[u8]]) -> bool
 {
     match words {
         [] => false,
-        [first, ..] => is_act(first),
+        [first, ..] => is_among(&ACTS, first),
     }
-}
-
-fn is_act(word: &[u8]) -> bool
-    ensures { result ≡ spec.is_act word.now }
-{
-    is_among(&ACTS, word)
 }
 
 // The words after a dash, or after at least one act.

@@ -1,9 +1,9 @@
 // The deeds of event lines: each function gives the deed that the words begin with, and the words
 // after it.
 
-ghost use Rattle.std.specs.Prelude.{◌≡◌, codes, map, option_map};
+ghost use Rattle.std.specs.Prelude.{◌≡◌, map, option_map};
 ghost use Rattle.report_words.specs.Deeds as spec;
-ghost use Rattle.report_words.specs.Forms.{after, after_by};
+ghost use Rattle.report_words.specs.Forms.{after_by};
 
 use crate::acts::check_in;
 use crate::event::{Deed, Kind};
@@ -143,11 +143,15 @@ fn count_by<'w>(kind: Kind, words: &'w [&'w [u8]]) -> (Deed, &'w [&'w [u8]])
     ensures { (result.0, map (λ w. w.now) result.1.now)
         ≡ spec.count_by kind (map (λ w. w.now) words.now) }
 {
-    if is_exec(kind) {
-        let create = false;
-        (Deed::Count { kind, create }, words)
-    } else {
-        created(kind, words)
+    match after(b"create", words) {
+        Some(rest) if !is_exec(kind) => {
+            let create = true;
+            (Deed::Count { kind, create }, rest)
+        }
+        _ => {
+            let create = false;
+            (Deed::Count { kind, create }, words)
+        }
     }
 }
 
@@ -157,23 +161,6 @@ fn is_exec(kind: Kind) -> bool
     match kind {
         Kind::Exec => true,
         Kind::Read | Kind::Write | Kind::ReadWrite => false,
-    }
-}
-
-fn created<'w>(kind: Kind, words: &'w [&'w [u8]]) -> (Deed, &'w [&'w [u8]])
-    ensures { (result.0, map (λ w. w.now) result.1.now)
-        ≡ spec.created kind (map (λ w. w.now) words.now)
-        (after (codes "create") (map (λ w. w.now) words.now)) }
-{
-    match after(b"create", words) {
-        Some(rest) => {
-            let create = true;
-            (Deed::Count { kind, create }, rest)
-        }
-        None => {
-            let create = false;
-            (Deed::Count { kind, create }, words)
-        }
     }
 }
 

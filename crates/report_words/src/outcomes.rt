@@ -5,8 +5,8 @@ ghost use Rattle.report_words.specs.Forms.{after_by, only_by};
 ghost use Rattle.report_words.specs.Outcomes as spec;
 
 use crate::event::{Deed, Grant, Kind, Outcome, Placed, Verdict};
-use crate::forms::{after, last_number, number_in};
-use crate::tables::is_among;
+use crate::forms::{after, counted, last_number, number_in};
+use crate::tables::{after_one_of, is_among};
 use text_forms::look_up;
 
 const COUNTS: [(&[u8], Outcome); 3] = [
@@ -110,12 +110,6 @@ pub fn is_cause(word: &[u8]) -> bool
     is_among(&CAUSES, word)
 }
 
-fn is_status(word: &[u8]) -> bool
-    ensures { result ≡ spec.is_status word.now }
-{
-    is_among(&STATUSES, word)
-}
-
 /// Whether the word is a status that forbids to set an attribute.
 pub fn is_set_status(word: &[u8]) -> bool
     ensures { result ≡ spec.is_set_status word.now }
@@ -169,8 +163,7 @@ fn violation(words: &[&[u8]]) -> Option<Outcome>
 fn tomtou(words: &[&[u8]]) -> Option<Outcome>
     ensures { result ≡ spec.tomtou (map (λ w. w.now) words.now) }
 {
-    let rest = after(b"tomtou", words)?;
-    let place = last_number(rest)?;
+    let place = counted(b"tomtou", words)?;
     Some(Outcome::ToMToU(place))
 }
 
@@ -189,10 +182,7 @@ fn placed_in<'w>(words: &'w [&'w [u8]]) -> Option<(Placed, u32, &'w [&'w [u8]])>
         ≡ spec.placed_in (map (λ w. w.now) words.now) }
 {
     match after(b"added", words) {
-        Some(rest) => {
-            let (entry, rest) = number_in(rest)?;
-            Some((Placed::Added, entry, rest))
-        }
+        Some(rest) => place_in(Placed::Added, rest),
         None => already_in(words),
     }
 }
@@ -202,12 +192,18 @@ fn already_in<'w>(words: &'w [&'w [u8]]) -> Option<(Placed, u32, &'w [&'w [u8]])
         ≡ spec.already_in (map (λ w. w.now) words.now) }
 {
     match after(b"already", words) {
-        Some(rest) => {
-            let (entry, rest) = number_in(rest)?;
-            Some((Placed::Already, entry, rest))
-        }
+        Some(rest) => place_in(Placed::Already, rest),
         None => Some((Placed::NotMeasured, 0, words)),
     }
+}
+
+// The place of an entry, of which this is said.
+fn place_in<'w>(placed: Placed, words: &'w [&'w [u8]]) -> Option<(Placed, u32, &'w [&'w [u8]])>
+    ensures { option_map (λ p. (p.0, p.1, map (λ w. w.now) p.2.now)) result
+        ≡ spec.place_in placed (map (λ w. w.now) words.now) }
+{
+    let (entry, rest) = number_in(words)?;
+    Some((placed, entry, rest))
 }
 
 // `pass` or `deny CAUSE`, if one of them is there.
@@ -238,10 +234,7 @@ fn after_cause<'w>(words: &'w [&'w [u8]]) -> Option<&'w [&'w [u8]]>
     ensures { option_map (λ r. map (λ w. w.now) r.now) result
         ≡ after_by spec.is_cause (map (λ w. w.now) words.now) }
 {
-    match words {
-        [] => None,
-        [first, rest @ ..] => if is_cause(first) { Some(rest) } else { None },
-    }
+    after_one_of(&CAUSES, words)
 }
 
 // `admitted` or `refused`.
@@ -329,7 +322,7 @@ fn is_one_status(words: &[&[u8]]) -> bool
     ensures { result ≡ only_by spec.is_status (map (λ w. w.now) words.now) }
 {
     match words {
-        [word] => is_status(word),
+        [word] => is_among(&STATUSES, word),
         _ => false,
     }
 }
