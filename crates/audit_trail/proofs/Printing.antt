@@ -12,22 +12,24 @@ use Rattle.world_model.specs.model.events.forms.Words.{text_of}
 use Rattle.world_model.specs.model.events.hashes.Algo.{algo_name}
 use Rattle.world_model.specs.model.events.hashes.declared.digest.Digest.{Digest}
 use Rattle.world_model.specs.model.events.meta.declared.step.Who.{Who}
-use Rattle.audit_trail.specs.Texts.{front_text, place_text}
+use Rattle.audit_trail.specs.Texts.{check_text, front_text}
 use Rattle.audit_trail.specs.Trail.{digest_word, record_line, trail_lines}
 
 -- ---- a record
 
-front_gather : (o w s p t n path : List ℕ) → ((((((o ++ w) ++ s) ++ p) ++ t) ++ n) ++ s) ++ path
-    ≡ o ++ (w ++ (s ++ (p ++ (t ++ (n ++ (s ++ path))))))
-front_gather o w s p t n path = simp append_assoc
+front_gather : (o w s i d k z t n path : List ℕ)
+    → ((((o ++ (w ++ (s ++ i))) ++ (d ++ k ++ s ++ z)) ++ (t ++ n)) ++ s) ++ path
+    ≡ o ++ (w ++ (s ++ (((i ++ (d ++ k)) ++ (s ++ z)) ++ (t ++ (n ++ (s ++ path))))))
+front_gather o w s i d k z t n path = simp append_assoc
 
 -- the pieces of a record up to its value, as the code appends them
 pub front_pushed : (o word : List ℕ) (i k : ℕ) (who : Who) (line : ℕ) (path : List ℕ)
-    → ((((((o ++ word) ++ codes " ") ++ place_text i k who) ++ codes " line ") ++ numeral line)
-    ++ codes " ") ++ path
+    → ((((o ++ join_with_byte 32 (word ∷ numeral i ∷ [])) ++ check_text k who)
+    ++ join_with_byte 32 (codes " line" ∷ numeral line ∷ [])) ++ codes " ") ++ path
     ≡ o ++ front_text word i k who line path
 front_pushed o word i k who line path =
-    front_gather o word (codes " ") (place_text i k who) (codes " line ") (numeral line) path
+    front_gather o word (codes " ") (numeral i) (codes ".") (numeral k) (who_word who)
+    (codes " line ") (numeral line) path
 
 record_gather : (o w s p z t n path v e : List ℕ)
     → ((o ++ (w ++ (s ++ ((p ++ (s ++ z)) ++ (t ++ (n ++ (s ++ path))))))) ++ (s ++ v)) ++ e

@@ -9,6 +9,10 @@ use Rattle.world_model.specs.model.events.meta.declared.step.Who.{Who}
 abbrev pub place_text : ℕ → ℕ → Who → List ℕ
 place_text i k who = (numeral i ++ 46 ∷ numeral k) ++ 32 ∷ who_word who
 
+-- `.K TASK.CALL.STEP`
+abbrev pub check_text : ℕ → Who → List ℕ
+check_text k who = codes "." ++ numeral k ++ codes " " ++ who_word who
+
 -- `WORD I.K TASK.CALL.STEP line L PATH`
 abbrev pub front_text : List ℕ → ℕ → ℕ → Who → ℕ → List ℕ → List ℕ
 front_text word i k who line path =

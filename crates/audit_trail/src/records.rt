@@ -2,7 +2,7 @@
 
 ghost use Rattle.std.specs.Prelude.{◌≡◌, ◌+◌, ◌≤◌, ◌∷◌, ◌++◌, length, vec_len, IfOk, OnOk};
 ghost use Rattle.world_model.specs.model.events.forms.Words.{text_of};
-ghost use Rattle.audit_trail.specs.Texts.{front_text, place_text};
+ghost use Rattle.audit_trail.specs.Texts.{check_text, front_text};
 ghost use Rattle.audit_trail.specs.Trail.{audit_line, hash_line, if_line, label_word, lines_of};
 
 use crate::site::Site;
@@ -10,14 +10,13 @@ use hash_algos::Digest;
 use inode_events::labels::{MAX_LABEL, write_label};
 use inode_meta::Who;
 use list_format::{append_hex, append_named_digest};
-use report_text::{push_number, push_who};
+use report_text::{push_number, push_numbers, push_who};
 use std::alloc::AllocError as OutOfMemory;
 
-// Prints the place of a check: `I.K TASK.CALL.STEP`.
-fn push_place(out: &mut Vec<u8>, inode: u64, place: u64, who: Who) -> Result<(), OutOfMemory>
-    ensures { OnOk result (out.new.items ≡ out.old.items ++ place_text inode place who) }
+// Prints the place of a check after the number of its inode: `.K TASK.CALL.STEP`.
+fn push_place(out: &mut Vec<u8>, place: u64, who: Who) -> Result<(), OutOfMemory>
+    ensures { OnOk result (out.new.items ≡ out.old.items ++ check_text place who) }
 {
-    push_number(out, inode)?;
     out.extend_from_slice(b".")?;
     push_number(out, place)?;
     out.extend_from_slice(b" ")?;
@@ -36,11 +35,9 @@ fn push_front(
     ensures { OnOk result (out.new.items ≡ out.old.items ++ front_text word.now
         site.now.number place who line site.now.file.now.path) }
 {
-    out.extend_from_slice(word)?;
-    out.extend_from_slice(b" ")?;
-    push_place(out, site.number, place, who)?;
-    out.extend_from_slice(b" line ")?;
-    push_number(out, line)?;
+    push_numbers(out, word, &[site.number])?;
+    push_place(out, place, who)?;
+    push_numbers(out, b" line", &[line])?;
     out.extend_from_slice(b" ")?;
     out.extend_from_slice(site.file.path.as_slice())
 }
