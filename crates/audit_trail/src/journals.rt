@@ -42,8 +42,7 @@ fn push_event(
         return Ok(0);
     }
     let digest = walk.digest_now(context.settings.hash);
-    let count = push_records(out, site, place, event.who, &digest, lines)?;
-    Ok(count)
+    push_records(out, site, place, event.who, &digest, lines)
 }
 
 // Prints the records of a journal, and returns how many. The walk has passed nothing yet.

@@ -1,4 +1,5 @@
-use Rattle.std.proofs.Common.{◌≡◌, ◌++◌, List, [], length, None, sym, ◌∙◌, ap}
+use Rattle.std.proofs.Common.{◌≡◌, ◌++◌, List, [], length, None, Result, Ok, Err, sym, ◌∙◌, ap, subst}
+use Rattle.std.specs.Result.{IfOk, OnOk}
 use Rattle.std.proofs.lemmas.List.{append-nil}
 use Rattle.report_text.specs.Words.{Line}
 use Rattle.world_model.specs.model.events.forms.Words.{text_of}
@@ -41,7 +42,7 @@ pub returns-in-None-None-clause-count : goal.returns-in-None-None-clause-count
 returns-in-None-None-clause-count c = ap (λ (l : List Line). length l) (unasked c)
 
 -- the records of the lines that ask
-asked : (c : goal.In_ok-count) → lines_of c.args.site.now.number c.args.place
+asked : (c : goal.After-push_records) → lines_of c.args.site.now.number c.args.place
     c.args.event.now.who c.args.site.now.file.now.path c.digest_now-digest.result
     c.lines_for-lines.result.0 c.lines_for-lines.result.1
     ≡ event_lines c.args.context.now c.args.site.now c.args.place c.args.walk.now c.args.event.now
@@ -56,12 +57,22 @@ asked c =
 
 pub returns-clause-text : goal.returns-clause-text
 returns-clause-text c =
-    c.in_ok-count.ensures.text
-    ∙ ap (λ (l : List Line). c.args.out.now.items ++ text_of l) (asked c)
+    subst (λ (l : List Line). IfOk c.push_records.result
+    (λ n. c.push_records.new.out.items ≡ c.args.out.now.items ++ text_of l)) (asked c)
+    c.push_records.ensures.text
 
 pub returns-clause-count : goal.returns-clause-count
 returns-clause-count c =
-    c.in_ok-count.ensures.count ∙ ap (λ (l : List Line). length l) (asked c)
+    subst (λ (l : List Line). IfOk c.push_records.result (λ n. n ≡ length l)) (asked c)
+    c.push_records.ensures.count
 
 pub returns-clause-grows : goal.returns-clause-grows
-returns-clause-grows c = c.in_ok-count.ensures.grows
+returns-clause-grows c = c.push_records.ensures.grows
+
+-- what holds of the walk holds with an answer too
+with_answer : {T E P : Type 0} (r : Result T E) → P → OnOk r P
+with_answer (Ok v) p = p
+with_answer (Err x) p = tt
+
+pub returns-clause-walk : goal.returns-clause-walk
+returns-clause-walk c = with_answer c.push_records.result c.digest_now-digest.ensures.kept
