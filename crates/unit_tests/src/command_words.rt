@@ -1,8 +1,7 @@
 // An empty word, which a case of `worked_runs` can't have: its words are parted by spaces.
+use crate::cases::Cases;
 use command_line::command_of;
 use std::alloc::{AllocError as OutOfMemory, Global};
-use std::io;
-use worked_calls::row;
 
 // The words, and where the empty one of them is.
 static ROWS: [(&[&str], &str); 3] = [
@@ -27,10 +26,9 @@ fn name_nothing(alloc: Global, texts: &[&str]) -> Result<bool, OutOfMemory> {
 }
 
 /// An empty word is no command.
-pub fn hold(rt: &HostRuntime) -> io::Result<bool> {
-    let mut all = true;
-    for (texts, case) in &ROWS {
-        all &= row(rt, "an empty word", case, name_nothing(rt.alloc(), texts)?)?;
+pub fn try_all(alloc: Global, cases: &mut Cases) {
+    for (texts, name) in &ROWS {
+        let holds = name_nothing(alloc, texts).unwrap_or(false);
+        cases.add("an empty word", name, holds);
     }
-    Ok(all)
 }

@@ -1,10 +1,9 @@
 // Digests that other programs computed (`md5sum`, `sha1sum` and so on).
 
+use crate::cases::Cases;
 use crate::checks::is_hex;
 use hash_algos::{Algo, Digest, Running};
-use std::alloc::{AllocError as OutOfMemory, Global};
-use std::io;
-use worked_calls::row;
+use std::alloc::Global;
 
 // A message of the table that stands for 1,000,000 bytes `a`.
 const MANY: &str = "a..";
@@ -42,36 +41,35 @@ fn digest(algo: Algo, message: &[u8], piece: usize) -> Digest {
 }
 
 // Whether the message's digest, fed in pieces of each of some sizes, has these digits.
-fn agrees(alloc: Global, algo: Algo, message: &[u8], wanted: &str) -> Result<bool, OutOfMemory> {
+fn agrees(alloc: Global, algo: Algo, message: &[u8], wanted: &str) -> bool {
     let mut all = true;
     for piece in &[1_000_000, 1, 63, 64, 65, 4096] {
-        all &= is_hex(alloc, digest(algo, message, *piece).as_slice(), wanted)?;
+        all &= is_hex(alloc, digest(algo, message, *piece).as_slice(), wanted);
     }
-    Ok(all)
+    all
 }
 
-// Compares the digest of one row. `many` is the message that `MANY` stands for.
-fn row_holds(rt: &HostRuntime, vector: &(Algo, &str, &str), many: &[u8]) -> io::Result<bool> {
-    let (algo, message, wanted) = *vector;
-    let bytes = if message == MANY {
+// The bytes of a message. `many` is the one that `MANY` stands for.
+fn bytes_of<'m>(message: &'m str, many: &'m [u8]) -> &'m [u8] {
+    if message == MANY {
         many
     } else {
         message.as_bytes()
-    };
-    row(
-        rt,
-        algo.name(),
-        message,
-        agrees(rt.alloc(), algo, bytes, wanted)?,
-    )
+    }
 }
 
-/// Compares the digest of each row.
-pub fn hold(rt: &HostRuntime) -> io::Result<bool> {
-    let many = vec![in rt.alloc(); b'a'; 1_000_000]?;
-    let mut all = true;
-    for vector in &VECTORS {
-        all &= row_holds(rt, vector, &many)?;
+// Compares the digest of each row.
+fn try_rows(alloc: Global, cases: &mut Cases, many: &[u8]) {
+    for (algo, message, wanted) in &VECTORS {
+        let holds = agrees(alloc, *algo, bytes_of(message, many), wanted);
+        cases.add(algo.name(), message, holds);
     }
-    Ok(all)
+}
+
+/// Compares the digest of each message.
+pub fn try_all(alloc: Global, cases: &mut Cases) {
+    match vec![in alloc; b'a'; 1_000_000] {
+        Ok(many) => try_rows(alloc, cases, &many),
+        Err(_) => cases.fail(),
+    }
 }

@@ -1,9 +1,9 @@
 // Digests of 5,000 bytes `a` that other programs computed (`md5sum`, `sha1sum`, `sha256sum`).
 
+use crate::cases::Cases;
 use hash_algos::{Algo, Digest};
 use inode_hashing::Hashing;
-use std::io;
-use worked_calls::row;
+use std::alloc::Global;
 
 const MD5: &[u8] = b"\x7a\xaa\x7d\xec\x70\x9f\xa4\xfa\x82\xf3\x74\x6a\xbf\xd8\x0b\xdb";
 
@@ -17,38 +17,40 @@ static DIGESTS: [(Algo, &[u8]); 3] = [(Algo::Md5, MD5), (Algo::Sha1, SHA1), (Alg
 
 // Both digests of the bytes, which are hashed as one piece of `cut` bytes and one of the rest.
 fn by_pieces(algo: Algo, bytes: &[u8], cut: usize) -> (Digest, Digest) {
+    let (first, rest) = bytes.split_at(cut.min(bytes.len()));
     let mut hashing = Hashing::begin(algo);
-    hashing.next(&bytes[..cut.min(bytes.len())]);
-    hashing.next(&bytes[cut.min(bytes.len())..]);
+    hashing.next(first);
+    hashing.next(rest);
     hashing.finish()
 }
 
-// Whether both digests are those of other programs.
-fn are_those(got: &(Digest, Digest), wanted: &[u8]) -> bool {
-    got.0.as_slice() == wanted && got.1.as_slice() == SHA1
+// Whether they are those of other programs.
+fn agree(algo: Algo, bytes: &[u8], cut: usize, wanted: &[u8]) -> bool {
+    let (chosen, sha1) = by_pieces(algo, bytes, cut);
+    chosen.as_slice() == wanted && sha1.as_slice() == SHA1
 }
 
 // Whether they are, wherever the bytes are cut.
-fn agree(algo: Algo, bytes: &[u8], wanted: &[u8]) -> bool {
+fn agree_at_cuts(algo: Algo, bytes: &[u8], wanted: &[u8]) -> bool {
+    let mut all = true;
     for cut in &[0, 1, 4096] {
-        if !are_those(&by_pieces(algo, bytes, *cut), wanted) {
-            return false;
-        }
+        all &= agree(algo, bytes, *cut, wanted);
     }
-    true
+    all
+}
+
+// Compares both digests of the bytes, by each algorithm.
+fn try_algos(cases: &mut Cases, bytes: &[u8]) {
+    for (algo, wanted) in &DIGESTS {
+        let holds = agree_at_cuts(*algo, bytes, wanted);
+        cases.add("both digests", algo.name(), holds);
+    }
 }
 
 /// Compares both digests, by each algorithm.
-pub fn hold(rt: &HostRuntime) -> io::Result<bool> {
-    let bytes = vec![in rt.alloc(); b'a'; 5000]?;
-    let mut all = true;
-    for (algo, wanted) in &DIGESTS {
-        all &= row(
-            rt,
-            "both digests",
-            algo.name(),
-            agree(*algo, &bytes, wanted),
-        )?;
+pub fn try_all(alloc: Global, cases: &mut Cases) {
+    match vec![in alloc; b'a'; 5000] {
+        Ok(bytes) => try_algos(cases, &bytes),
+        Err(_) => cases.fail(),
     }
-    Ok(all)
 }

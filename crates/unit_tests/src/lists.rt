@@ -5,16 +5,16 @@
 // list has the template `ima`, which it takes in no list with others, and the other list has the
 // rest. The registers of the one are in a case of `worked_runs`.
 
+use crate::cases::Cases;
 use crate::checks::is_hex;
 use crate::entries::{entry, violation_of_a};
+use crate::registers;
 use ima_templates::Entry;
 use inode_meta::{Bank, Template};
 use list_format::{ascii, binary};
 use measure_book::extend;
 use measure_book::registers::Banks;
 use std::alloc::{AllocError as OutOfMemory, Global};
-use std::io;
-use worked_calls::row;
 
 const IMA_RECORDS: &str =
     "0a000000719de8e521439498e9b77f6ed41e230b9821111e03000000696d610000000000000000000000000000000000\
@@ -94,33 +94,42 @@ fn entry_of(alloc: Global, line: &Line) -> Result<Option<Entry>, OutOfMemory> {
     }
 }
 
-// The list of these lines.
-fn list_of(alloc: Global, lines: &[Line]) -> Result<Vec<Entry>, OutOfMemory> {
-    let mut list = Vec::new(alloc);
+// Appends the entries of these lines.
+fn push_entries(alloc: Global, list: &mut Vec<Entry>, lines: &[Line]) -> Result<(), OutOfMemory> {
     for line in lines {
         if let Some(entry) = entry_of(alloc, line)? {
             list.push(entry)?;
         }
     }
-    Ok(list)
+    Ok(())
+}
+
+// Appends the records of the list.
+fn push_records(bytes: &mut Vec<u8>, list: &[Entry]) -> Result<(), OutOfMemory> {
+    for e in list {
+        binary(e, bytes)?;
+    }
+    Ok(())
 }
 
 // Whether the list's records are these.
-fn has_records(alloc: Global, list: &[Entry], records: &str) -> Result<bool, OutOfMemory> {
+fn has_records(alloc: Global, list: &[Entry], records: &str) -> bool {
     let mut bytes = Vec::new(alloc);
-    for e in list {
-        binary(e, &mut bytes)?;
-    }
-    is_hex(alloc, &bytes, records)
+    push_records(&mut bytes, list).is_ok() && is_hex(alloc, &bytes, records)
 }
 
-// Whether the line of the entry is this.
-fn has_line(alloc: Global, entry: Option<&Entry>, wanted: &str) -> Result<bool, OutOfMemory> {
+// Whether the entry's line is this.
+fn has_line(alloc: Global, entry: &Entry, wanted: &str) -> bool {
     let mut line = Vec::new(alloc);
-    if let Some(entry) = entry {
-        ascii(entry, &mut line)?;
+    ascii(entry, &mut line).is_ok() && line.as_slice() == wanted.as_bytes()
+}
+
+// Whether the fifth entry's line is that of the buffer.
+fn has_buf_line(alloc: Global, list: &[Entry]) -> bool {
+    match list.get(4) {
+        Some(entry) => has_line(alloc, entry, BUF_LINE),
+        None => false,
     }
-    Ok(line.as_slice() == wanted.as_bytes())
 }
 
 // The registers after the list.
@@ -132,51 +141,26 @@ fn banks_of(list: &[Entry]) -> Banks {
     banks
 }
 
-// Whether the register holds this in the bank.
-fn register_is(
-    alloc: Global,
-    banks: &Banks,
-    wanted: &(Bank, u8, &str),
-) -> Result<bool, OutOfMemory> {
-    let (bank, pcr, digits) = *wanted;
-    if pcr >= 24 {
-        return Ok(false);
-    }
-    is_hex(alloc, banks.value(bank, pcr), digits)
-}
-
-// Whether the registers hold after the other list what they have to.
-fn has_registers(alloc: Global, list: &[Entry]) -> Result<bool, OutOfMemory> {
-    let banks = banks_of(list);
-    let mut all = true;
-    for wanted in &OTHER_REGISTERS {
-        all &= register_is(alloc, &banks, wanted)?;
-    }
-    Ok(all)
-}
-
 // Whether the records of the list of `ima` are those that were written out.
-fn is_ima_list(alloc: Global) -> Result<bool, OutOfMemory> {
-    let list = list_of(alloc, &IMA_LIST)?;
-    has_records(alloc, &list, IMA_RECORDS)
+fn is_ima_list(alloc: Global) -> bool {
+    let mut list = Vec::new(alloc);
+    push_entries(alloc, &mut list, &IMA_LIST).is_ok() && has_records(alloc, &list, IMA_RECORDS)
 }
 
 // Whether the other list's records are, its line of a buffer, and its registers.
-fn is_other_list(alloc: Global) -> Result<bool, OutOfMemory> {
-    let list = list_of(alloc, &OTHER_LIST)?;
-    let records = has_records(alloc, &list, OTHER_RECORDS)?;
-    let line = has_line(alloc, list.get(4), BUF_LINE)?;
-    Ok(has_registers(alloc, &list)? && records && line)
+fn is_other(alloc: Global, list: &[Entry]) -> bool {
+    has_records(alloc, list, OTHER_RECORDS)
+        && has_buf_line(alloc, list)
+        && registers::all_hold(alloc, &banks_of(list), &OTHER_REGISTERS)
 }
 
-/// Compares both lists.
-pub fn hold(rt: &HostRuntime) -> io::Result<bool> {
-    let mut all = row(rt, "a list of evmctl", "ima", is_ima_list(rt.alloc())?)?;
-    all &= row(
-        rt,
-        "a list of evmctl",
-        "the others",
-        is_other_list(rt.alloc())?,
-    )?;
-    Ok(all)
+fn is_other_list(alloc: Global) -> bool {
+    let mut list = Vec::new(alloc);
+    push_entries(alloc, &mut list, &OTHER_LIST).is_ok() && is_other(alloc, &list)
+}
+
+/// Compares both lists. They differ if memory runs out.
+pub fn try_all(alloc: Global, cases: &mut Cases) {
+    cases.add("a list of evmctl", "ima", is_ima_list(alloc));
+    cases.add("a list of evmctl", "the others", is_other_list(alloc));
 }

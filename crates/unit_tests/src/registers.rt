@@ -1,14 +1,19 @@
-// A register after two extends, against values of `sha1sum` and `sha256sum`.
+// What registers hold, against values of `sha1sum` and `sha256sum`.
 
+use crate::checks::is_hex;
 use measure_book::registers::{Bank, Banks};
-use std::io;
-use worked_calls::row;
+use std::alloc::Global;
 
-const SHA1_TWICE: &[u8] =
-    b"\x0e\x88\x99\x1a\x16\x8f\x26\x48\x2d\x5b\x6e\x38\x18\x24\x27\x1f\xdb\x49\x6d\xf9";
-
-const SHA256_TWICE: &[u8] =
-    b"\x73\x7c\xd3\x3a\x98\x9a\xe8\xef\xf8\x2e\x19\x60\x87\xca\x9f\xd2\x92\xa5\x02\x58\x6c\xa1\xe0\x29\x10\xc2\xd3\x02\x51\xf7\x28\xfd";
+// A register after two extends in both banks, and one that isn't extended.
+static ROWS: [(Bank, u8, &str); 3] = [
+    (Bank::Sha1, 23, "0e88991a168f26482d5b6e381824271fdb496df9"),
+    (
+        Bank::Sha256,
+        23,
+        "737cd33a989ae8eff82e196087ca9fd292a502586ca1e02910c2d30251f728fd",
+    ),
+    (Bank::Sha1, 22, "0000000000000000000000000000000000000000"),
+];
 
 // The registers after two extends of one of them.
 fn extended() -> Banks {
@@ -18,11 +23,21 @@ fn extended() -> Banks {
     banks
 }
 
-/// Compares that register in both banks, and one that isn't extended.
-pub fn hold(rt: &HostRuntime) -> io::Result<bool> {
-    let banks = extended();
-    let sha1 = banks.value(Bank::Sha1, 23) == SHA1_TWICE;
-    let sha256 = banks.value(Bank::Sha256, 23) == SHA256_TWICE;
-    let other = banks.value(Bank::Sha1, 22) == [0; 20].as_slice();
-    row(rt, "two extends", "both banks", sha1 && sha256 && other)
+// Whether a register of the bank holds this.
+fn holds(alloc: Global, banks: &Banks, bank: Bank, pcr: u8, digits: &str) -> bool {
+    pcr < 24 && is_hex(alloc, banks.value(bank, pcr), digits)
+}
+
+/// Whether registers hold what the rows say.
+pub fn all_hold(alloc: Global, banks: &Banks, rows: &[(Bank, u8, &str)]) -> bool {
+    let mut all = true;
+    for (bank, pcr, digits) in rows {
+        all &= holds(alloc, banks, *bank, *pcr, digits);
+    }
+    all
+}
+
+/// Whether registers hold what they have to after two extends of one of them.
+pub fn are_extended(alloc: Global) -> bool {
+    all_hold(alloc, &extended(), &ROWS)
 }

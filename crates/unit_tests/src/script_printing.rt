@@ -1,11 +1,10 @@
 // What no contract says: a text and the canonical text of its script, which is its own canonical
 // text.
 
+use crate::cases::Cases;
 use load_gen::prints::print;
 use script_text::parse;
 use std::alloc::Global;
-use std::io;
-use worked_calls::row;
 
 static ROWS: [(&str, &str, &str); 3] = [
     (
@@ -74,12 +73,10 @@ fn is_printed(alloc: Global, text: &str, canonical: &str) -> bool {
 }
 
 /// Prints the script of each row, and that of its canonical text.
-pub fn hold(rt: &HostRuntime) -> io::Result<bool> {
-    let mut all = true;
-    for (case, text, canonical) in &ROWS {
-        let well = is_printed(rt.alloc(), text, canonical);
-        let again = is_printed(rt.alloc(), canonical, canonical);
-        all &= row(rt, "a printed script", case, well && again)?;
+pub fn try_all(alloc: Global, cases: &mut Cases) {
+    for (name, text, canonical) in &ROWS {
+        let well = is_printed(alloc, text, canonical);
+        let again = is_printed(alloc, canonical, canonical);
+        cases.add("a printed script", name, well && again);
     }
-    Ok(all)
 }

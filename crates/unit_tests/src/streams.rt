@@ -1,5 +1,6 @@
 // Tests of what no contract says: that the calls succeed if memory is ample, and how faults of the
 // system's streams are reported.
+use crate::cases::Cases;
 use ima_io::{
     Failed, FreeGate, Gate, MemSink, MemSource, ReadErr, Sink, Source, StdSink, StdSource, Who,
     read_all, write_all,
@@ -7,7 +8,6 @@ use ima_io::{
 use std::alloc::{AllocError as OutOfMemory, Global};
 use std::io;
 use std::io::{ErrorKind, Read, Write};
-use worked_calls::row;
 
 // A source in memory, the limit, and what comes of reading it to its end.
 struct SourceRow {
@@ -64,12 +64,10 @@ fn is_row_read(alloc: Global, row: &SourceRow) -> bool {
 }
 
 // Reads each source to its end.
-fn sources_hold(rt: &HostRuntime) -> io::Result<bool> {
-    let mut all = true;
+fn try_sources(alloc: Global, cases: &mut Cases) {
     for source in &SOURCES {
-        all &= row(rt, "a source", source.case, is_row_read(rt.alloc(), source))?;
+        cases.add("a source", source.case, is_row_read(alloc, source));
     }
-    Ok(all)
 }
 
 // A sink in memory, whether a piece of seven bytes goes in whole, and the bytes that the sink took.
@@ -113,12 +111,10 @@ fn is_row_written(alloc: Global, row: &SinkRow) -> bool {
 }
 
 // Writes a piece to each sink.
-fn sinks_hold(rt: &HostRuntime) -> io::Result<bool> {
-    let mut all = true;
+fn try_sinks(alloc: Global, cases: &mut Cases) {
     for sink in &SINKS {
-        all &= row(rt, "a sink", sink.case, is_row_written(rt.alloc(), sink))?;
+        cases.add("a sink", sink.case, is_row_written(alloc, sink));
     }
-    Ok(all)
 }
 
 // A stream of the system whose every call returns the same: an error, or no bytes.
@@ -186,33 +182,25 @@ fn writes_are_told() -> bool {
 }
 
 // Streams of the system are put after the traits, and their faults are told.
-fn system_holds(rt: &HostRuntime) -> io::Result<bool> {
-    let mut all = row(
-        rt,
-        "a stream of the system",
-        "read",
-        is_stream_read(rt.alloc()),
-    )?;
-    all &= row(
-        rt,
+fn try_system(alloc: Global, cases: &mut Cases) {
+    cases.add("a stream of the system", "read", is_stream_read(alloc));
+    cases.add(
         "a stream of the system",
         "written",
-        is_stream_written(rt.alloc()),
-    )?;
-    all &= row(rt, "a fault of the system", "read", reads_are_told())?;
-    all &= row(rt, "a fault of the system", "written", writes_are_told())?;
-    Ok(all)
+        is_stream_written(alloc),
+    );
+    cases.add("a fault of the system", "read", reads_are_told());
+    cases.add("a fault of the system", "written", writes_are_told());
 }
 
 /// Tries streams in memory and those of the system.
-pub fn hold(rt: &HostRuntime) -> io::Result<bool> {
+pub fn try_all(alloc: Global, cases: &mut Cases) {
     FreeGate.pass(Who {
         task: 0,
         call: 0,
         step: 0,
     });
-    let mut all = sources_hold(rt)?;
-    all &= sinks_hold(rt)?;
-    all &= system_holds(rt)?;
-    Ok(all)
+    try_sources(alloc, cases);
+    try_sinks(alloc, cases);
+    try_system(alloc, cases);
 }
