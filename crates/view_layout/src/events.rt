@@ -5,6 +5,7 @@ ghost use Rattle.std.specs.List.{flat_map};
 ghost use Rattle.view_layout.specs.Drawing as spec;
 
 use crate::flags::{Flag, flag_width};
+use crate::items::push;
 use crate::scenery::end_of;
 use crate::strips::{middle, right_edge};
 use std::alloc::AllocError as OutOfMemory;
@@ -58,8 +59,7 @@ fn push_hashing_at(
                 width: end.saturating_sub(x).min(30),
                 height: 10,
             };
-            items.push(Item::Block(Look::Hashing, area))?;
-            Ok(())
+            push(items, Item::Block(Look::Hashing, area))
         }
     }
 }
@@ -75,7 +75,7 @@ pub fn push_marks(
         ≡ items.old.items ++ flat_map (spec.mark_items lanes.now seats.now) columns.now) }
 {
     for column in columns {
-        items.push(mark_at(lanes, seats, *column))?;
+        push(items, mark_at(lanes, seats, *column))?;
     }
     Ok(())
 }
@@ -98,7 +98,7 @@ pub fn push_axes(items: &mut Vec<Item>, bottom: u32, columns: &[Column]) -> Resu
         (items.new.items ≡ items.old.items ++ flat_map (spec.axis_items bottom) columns.now) }
 {
     for column in columns {
-        items.push(axis_at(bottom, *column))?;
+        push(items, axis_at(bottom, *column))?;
     }
     Ok(())
 }
@@ -121,7 +121,7 @@ pub fn push_flag_items(items: &mut Vec<Item>, flags: &[Flag]) -> Result<(), OutO
         (items.new.items ≡ items.old.items ++ flat_map spec.flag_items flags.now) }
 {
     for flag in flags {
-        items.push(flag_at(*flag))?;
+        push(items, flag_at(*flag))?;
     }
     Ok(())
 }
@@ -171,10 +171,10 @@ fn push_gap(
     if next >= place {
         return Ok(());
     }
-    items.push(Item::Gap {
+    let gap = Item::Gap {
         x,
         height: u64::from(bottom),
         events: place - next,
-    })?;
-    Ok(())
+    };
+    push(items, gap)
 }

@@ -8,6 +8,7 @@
 mod drawing;
 mod events;
 mod flags;
+mod items;
 pub mod law;
 mod scenery;
 mod strips;

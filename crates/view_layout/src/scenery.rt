@@ -5,6 +5,7 @@ ghost use Rattle.std.specs.List.{flat_map, list_any};
 ghost use Rattle.view_layout.specs.Drawing as spec;
 
 use crate::flags::{Flag, guide_of};
+use crate::items::push;
 use crate::strips::{middle, right_edge};
 use std::alloc::AllocError as OutOfMemory;
 use view_journal::{Area, Bar, Column, Guide, Item, Look, is_write};
@@ -46,12 +47,12 @@ fn push_lane(items: &mut Vec<Item>, end: u64, lane: Lane) -> Result<(), OutOfMem
         width: end.saturating_sub(96),
         height: u64::from(lane.height),
     };
-    items.push(Item::Block(lane_look(lane.task), area))?;
-    items.push(Item::LaneName {
+    let name = Item::LaneName {
         y: u64::from(lane.top) + 19,
         task: lane.task,
-    })?;
-    Ok(())
+    };
+    push(items, Item::Block(lane_look(lane.task), area))?;
+    push(items, name)
 }
 
 fn lane_look(task: u32) -> Look
@@ -98,8 +99,7 @@ fn push_differing_at(
         width: 30,
         height: u64::from(bottom),
     };
-    items.push(Item::Block(Look::Differs, area))?;
-    Ok(())
+    push(items, Item::Block(Look::Differs, area))
 }
 
 fn is_among(place: u32, places: &[u32]) -> bool
@@ -141,13 +141,13 @@ fn push_parting_at(
     if !is_place(parts, column.place) {
         return Ok(());
     }
-    items.push(Item::Guide {
+    let guide = Item::Guide {
         guide: Guide::Parting,
         x: u64::from(column.x),
         up: 4,
         down: u64::from(bottom) + 4,
-    })?;
-    Ok(())
+    };
+    push(items, guide)
 }
 
 fn is_place(parts: Option<u32>, place: u32) -> bool
@@ -180,13 +180,13 @@ fn push_write(items: &mut Vec<Item>, bottom: u32, column: Column) -> Result<(), 
     if !is_write(column.event.deed, column.event.outcome) {
         return Ok(());
     }
-    items.push(Item::Guide {
+    let guide = Item::Guide {
         guide: Guide::Write,
         x: middle(column),
         up: 0,
         down: u64::from(bottom),
-    })?;
-    Ok(())
+    };
+    push(items, guide)
 }
 
 /// Appends the guides of flags.
@@ -206,13 +206,13 @@ fn push_guide(items: &mut Vec<Item>, bottom: u32, flag: Flag) -> Result<(), OutO
     match guide_of(flag.note) {
         None => Ok(()),
         Some(guide) => {
-            items.push(Item::Guide {
+            let guide = Item::Guide {
                 guide,
                 x: u64::from(flag.x) + 15,
                 up: u64::from(flag.up),
                 down: u64::from(bottom),
-            })?;
-            Ok(())
+            };
+            push(items, guide)
         }
     }
 }
@@ -244,8 +244,7 @@ fn push_bar(items: &mut Vec<Item>, columns: &[Column], seat: Seat) -> Result<(),
         width: right.saturating_sub(left),
         height: 16,
     };
-    items.push(Item::Block(bar_look(seat.bar), area))?;
-    Ok(())
+    push(items, Item::Block(bar_look(seat.bar), area))
 }
 
 fn bar_look(bar: Bar) -> Look

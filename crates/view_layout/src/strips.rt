@@ -5,6 +5,7 @@ ghost use Rattle.std.specs.List.{list_any};
 ghost use Rattle.view_layout.specs.Drawing as spec;
 ghost use Rattle.view_journal.specs.Frame.{middle};
 
+use crate::items::push;
 use std::alloc::AllocError as OutOfMemory;
 use view_journal::{Column, Freshness, Item, State, Strip};
 
@@ -43,7 +44,7 @@ fn push_strip(items: &mut Vec<Item>, strip: Strip, columns: &[Column]) -> Result
     ensures { OnOk result
         (items.new.items ≡ items.old.items ++ spec.strip_items strip columns.now) }
 {
-    items.push(Item::StripName(strip))?;
+    push(items, Item::StripName(strip))?;
     match columns {
         [] => Ok(()),
         [first, rest @ ..] => push_segments(items, strip, *first, rest),
@@ -67,14 +68,13 @@ fn push_segments(
         let x = middle(*column);
         let next = shown_in(strip, column.state);
         if !goes_on(next, x, shown, to) {
-            items.push(segment(strip, from, to, shown))?;
+            push(items, segment(strip, from, to, shown))?;
             from = x;
             shown = next;
         }
         to = x + 30;
     }
-    items.push(segment(strip, from, to.saturating_sub(15), shown))?;
-    Ok(())
+    push(items, segment(strip, from, to.saturating_sub(15), shown))
 }
 
 // The segment goes on in a column that begins at x.

@@ -13,7 +13,7 @@ pub loop-column-preserved : goal.loop-column-preserved
 loop-column-preserved c =
     one_more c.args.items.now.items (axis_items c.args.bottom) c.args.columns.now
     c.loop-column.column-index no_column c.loop-column-test.true c.loop-column.invariant
-    (c.in_ok-push.ensures.items
+    (c.in_ok-push.ensures
     ∙ ap (λ (x : Item). c.loop-column.items.items ++ x ∷ []) c.axis_at.ensures)
 
 pub returns : goal.returns

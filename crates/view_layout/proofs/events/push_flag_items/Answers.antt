@@ -13,7 +13,7 @@ pub loop-flag-preserved : goal.loop-flag-preserved
 loop-flag-preserved c =
     one_more c.args.items.now.items flag_items c.args.flags.now c.loop-flag.flag-index no_flag
     c.loop-flag-test.true c.loop-flag.invariant
-    (c.in_ok-push.ensures.items
+    (c.in_ok-push.ensures
     ∙ ap (λ (x : Item). c.loop-flag.items.items ++ x ∷ []) c.flag_at.ensures)
 
 pub returns : goal.returns

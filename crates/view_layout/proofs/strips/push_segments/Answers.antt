@@ -1,4 +1,5 @@
 use Rattle.std.proofs.Common.{[], ◌∷◌, ◌++◌, refl, sym, ap, ◌∙◌}
+use Rattle.std.proofs.lemmas.Result.{on_ok_weaker}
 use Rattle.view_journal.specs.declared.items.Item.{Item}
 use Rattle.view_lanes.proofs.NoItems.{no_column}
 use Rattle.view_layout.proofs.Segments.{begins, ends, goes_on}
@@ -14,10 +15,10 @@ loop-column-preserved c =
       | then-not-goes_on+in_ok-push w ↦ rw (w.items-is, w.from-is, w.shown-is)
           (begins c.args.strip c.loop-column.from c.loop-column.to c.loop-column.shown
           c.args.rest.now c.loop-column.column-index no_column c.middle-x.result
-          c.shown_in-next.result c.loop-column.items.items w.push.new.self.items _
+          c.shown_in-next.result c.loop-column.items.items w.push.new.items.items _
           c.loop-column-test.true c.middle-x.ensures.is c.shown_in-next.ensures
           (sym c.goes_on.ensures ∙ w.if-not-goes_on.true)
-          (w.in_ok-push.ensures.items
+          (w.in_ok-push.ensures
           ∙ ap (λ (x : Item). c.loop-column.items.items ++ x ∷ []) w.segment.ensures)
           c.loop-column.invariant)
       | else-not-goes_on w ↦ rw (w.items-is, w.from-is, w.shown-is)
@@ -30,9 +31,10 @@ loop-column-preserved c =
 
 pub returns : goal.returns
 returns c =
-    ends c.args.strip c.loop-column.from c.loop-column.to c.loop-column.shown c.args.rest.now
-    c.loop-column.column-index c.saturating_sub.result c.loop-column.items.items
-    c.push-2.new.self.items _ c.loop-column-test.false c.saturating_sub.ensures
-    (c.in_ok-push-2.ensures.items
-    ∙ ap (λ (x : Item). c.loop-column.items.items ++ x ∷ []) c.segment-2.ensures)
-    c.loop-column.invariant
+    on_ok_weaker c.push-2.result
+    (λ pushed. ends c.args.strip c.loop-column.from c.loop-column.to c.loop-column.shown
+    c.args.rest.now c.loop-column.column-index c.saturating_sub.result c.loop-column.items.items
+    c.push-2.new.items.items _ c.loop-column-test.false c.saturating_sub.ensures
+    (pushed ∙ ap (λ (x : Item). c.loop-column.items.items ++ x ∷ []) c.segment-2.ensures)
+    c.loop-column.invariant)
+    c.push-2.ensures
