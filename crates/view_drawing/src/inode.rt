@@ -170,6 +170,5 @@ fn push_head(out: &mut Vec<Piece>, parts: Parts<'_>) -> Result<(), OutOfMemory>
         Piece::Number(height),
         Piece::Own(Own::SvgOpen),
     ];
-    add(out, &pieces)?;
-    Ok(())
+    add(out, &pieces)
 }

@@ -53,10 +53,7 @@ pub fn push_item(out: &mut Vec<Piece>, view: View, item: Item) -> Result<(), Out
 pub fn add(out: &mut Vec<Piece>, pieces: &[Piece]) -> Result<(), OutOfMemory>
     ensures { OnOk result (out.new.items ≡ out.old.items ++ pieces.now) }
 {
-    for piece in pieces {
-        out.push(*piece)?;
-    }
-    Ok(())
+    out.extend_from_slice(pieces)
 }
 
 fn push_block(out: &mut Vec<Piece>, look: Look, area: Area) -> Result<(), OutOfMemory>
