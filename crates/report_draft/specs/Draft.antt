@@ -78,6 +78,10 @@ names_left n = if n == 0 then stage.Journal else stage.Names n
 abbrev pub inode_read : Draft → InodeValue
 inode_read d = record { head = d.head; attrs = d.attrs; events = d.events }
 
+-- the inode's parts are taken out of the draft
+abbrev pub without_inode : Draft → Draft
+without_inode d = record d { attrs = []; events = [] }
+
 abbrev pub inode_closed : Draft → Draft
 inode_closed d = record d {
   stage = stage.Inodes;

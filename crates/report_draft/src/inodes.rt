@@ -96,16 +96,22 @@ impl Draft {
     fn close_inode(&mut self, alloc: Global) -> Result<(), OutOfMemory>
         ensures { OnOk result (self.new ≡ spec.inode_closed self.old) }
     {
-        let attrs = mem::replace(&mut self.attrs, Vec::new(alloc));
-        let events = mem::replace(&mut self.events, Vec::new(alloc));
-        let head = self.head;
-        self.inodes.push(Inode {
-            head,
-            attrs,
-            events,
-        })?;
+        let inode = self.take_inode(alloc);
+        self.inodes.push(inode)?;
         self.stage = Stage::Inodes;
         Ok(())
+    }
+
+    // The inode that has been read. Its parts are taken out of the draft.
+    fn take_inode(&mut self, alloc: Global) -> Inode
+        ensures inode { result ≡ spec.inode_read self.old }
+        ensures rest { self.new ≡ spec.without_inode self.old }
+    {
+        Inode {
+            head: self.head,
+            attrs: mem::replace(&mut self.attrs, Vec::new(alloc)),
+            events: mem::replace(&mut self.events, Vec::new(alloc)),
+        }
     }
 
     pub(crate) fn with_event(
