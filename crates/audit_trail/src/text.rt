@@ -90,19 +90,14 @@ pub fn trail(alloc: Global, script: &Script, ended: &Ended) -> Result<Vec<u8>, O
         → text.items ≡ trail_text (scene_of script.now for_files) ended.now) }
 {
     script.keeps();
-    let tasks = script.tasks.as_slice();
-    let files = script.files.as_slice();
-    let supers = script.supers.as_slice();
-    let appended = ended.rules.as_slice();
-    let inodes = ended.inodes.as_slice();
     let settings = settings_of(alloc, script)?;
-    let rules = rules_of(alloc, &script.rules, appended)?;
+    let rules = rules_of(alloc, &script.rules, ended.rules.as_slice())?;
     let context = Context {
         settings: &settings,
-        tasks,
-        files,
-        supers,
+        tasks: script.tasks.as_slice(),
+        files: script.files.as_slice(),
+        supers: script.supers.as_slice(),
         rules: &rules,
     };
-    trail_by(alloc, &context, inodes)
+    trail_by(alloc, &context, ended.inodes.as_slice())
 }
