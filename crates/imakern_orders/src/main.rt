@@ -1,7 +1,7 @@
 //! The program: [`order_top::serve`] on the process's own words and streams.
 #![tactic(auto)]
 
-use ima_io::{FreeGate, StdSink, StdSource};
+use ima_io::{StdSink, StdSource};
 use order_top::serve;
 use std::io::ErrorKind;
 use std::process::ExitCode;
@@ -20,14 +20,7 @@ fn main(rt: HostRuntime) -> ExitCode {
         // A word that isn't UTF-8 makes the words no command, just as if there were none.
         Err(_) => Vec::new(rt.alloc()),
     };
-    let status = serve(
-        rt.alloc(),
-        &words,
-        &mut script,
-        &mut out,
-        &mut note,
-        &FreeGate,
-    );
+    let status = serve(rt.alloc(), &words, &mut script, &mut out, &mut note);
     ExitCode::from(status)
 }
 

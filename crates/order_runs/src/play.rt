@@ -1,6 +1,6 @@
 // A script that is run by one schedule after the other.
 
-use ima_io::Gate;
+use ima_io::FreeGate;
 use order_outcomes::counts::Order;
 use order_sights::Sight;
 use script_start::started;
@@ -68,35 +68,25 @@ impl Play {
     }
 
     // The world and the tasks after a run of these turns.
-    fn run<G: Gate>(
-        &self,
-        alloc: Global,
-        turns: &Order,
-        gate: &G,
-    ) -> Result<(World, Vec<Task>), OutOfMemory>
+    fn run(&self, alloc: Global, turns: &Order) -> Result<(World, Vec<Task>), OutOfMemory>
         requires { IsSchedule self.now turns.now }
         ensures { IfOk result (λ r. IsRunTo self.now turns.now r.0 r.1.items) }
     {
         let script = self.script(alloc)?;
         let (mut world, mut tasks, _ending) = started(alloc, script)?;
-        run_schedule(&mut world, &mut tasks, turns.as_slice(), gate)?;
+        run_schedule(&mut world, &mut tasks, turns.as_slice(), &FreeGate)?;
         Ok((world, tasks))
     }
 
     /// What is seen after a run of these turns. The script is run twice: one run is closed, and the
     /// other is kept as it stands.
-    pub fn sight<G: Gate>(
-        &self,
-        alloc: Global,
-        turns: &Order,
-        gate: &G,
-    ) -> Result<Sight, OutOfMemory>
+    pub fn sight(&self, alloc: Global, turns: &Order) -> Result<Sight, OutOfMemory>
         requires { IsSchedule self.now turns.now }
         ensures { IfOk result (IsSight self.now (moment_by self.now turns.now)) }
     {
-        let (closing, closing_tasks) = self.run(alloc, turns, gate)?;
+        let (closing, closing_tasks) = self.run(alloc, turns)?;
         let ended = closing.close(closing_tasks)?;
-        let (world, tasks) = self.run(alloc, turns, gate)?;
+        let (world, tasks) = self.run(alloc, turns)?;
         Ok(Sight {
             ended,
             world,

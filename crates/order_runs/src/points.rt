@@ -10,7 +10,6 @@ ghost use Rattle.order_runs.specs.Plays.{IsSchedule, moment_by};
 ghost use Rattle.order_sights.specs.Sights.{IsSight};
 
 use crate::play::Play;
-use ima_io::Gate;
 use order_outcomes::counts::Order;
 use order_outcomes::{Made, made_of};
 use order_sights::Sight;
@@ -28,18 +27,13 @@ pub struct Point {
 }
 
 // The run that stops after these turns, whether or not each of them moves its task.
-fn stopped<G: Gate>(
-    alloc: Global,
-    play: &Play,
-    turns: Order,
-    gate: &G,
-) -> Result<Point, OutOfMemory>
+fn stopped(alloc: Global, play: &Play, turns: Order) -> Result<Point, OutOfMemory>
     requires { IsSchedule play.now turns }
     ensures turns { IfOk result (λ point. point.turns ≡ turns) }
     ensures made { IfOk result (λ point. point.made ≡ made_of point.sight.ended) }
     ensures sight { IfOk result (λ point. IsSight play.now (moment_by play.now turns) point.sight) }
 {
-    let sight = play.sight(alloc, &turns, gate)?;
+    let sight = play.sight(alloc, &turns)?;
     Ok(Point {
         turns,
         made: made_of(&sight.ended),
@@ -48,12 +42,11 @@ fn stopped<G: Gate>(
 }
 
 /// The point after one turn of the task more, if the turn moves it.
-pub fn turned<G: Gate>(
+pub fn turned(
     alloc: Global,
     play: &Play,
     point: &Point,
     task: u32,
-    gate: &G,
 ) -> Result<Option<Point>, OutOfMemory>
     requires task { task < length play.now.programs }
     requires point { IsPoint play.now point.now }
@@ -62,18 +55,17 @@ pub fn turned<G: Gate>(
         → IsMoved play.now point.now task (moved play.now m task) longer) }
 {
     let turns = point.turns.then(alloc, task)?;
-    let longer = stopped(alloc, play, turns, gate)?;
+    let longer = stopped(alloc, play, turns)?;
     let moves = !longer.made.is_same(point.made);
     Ok(moves.then_some(longer))
 }
 
 // The point after one turn more of a task that the play may not have.
-fn turned_by<G: Gate>(
+fn turned_by(
     alloc: Global,
     play: &Play,
     point: Point,
     task: u32,
-    gate: &G,
 ) -> Result<Option<Point>, OutOfMemory>
     requires point { IsPoint play.now point }
     requires turns { length point.turns < most_turns }
@@ -83,23 +75,18 @@ fn turned_by<G: Gate>(
     if task >= play.tasks() {
         return Ok(None);
     }
-    turned(alloc, play, &point, task, gate)
+    turned(alloc, play, &point, task)
 }
 
 /// The point after these turns, if each of them moves its task.
-pub fn reached<G: Gate>(
-    alloc: Global,
-    play: &Play,
-    turns: &[u32],
-    gate: &G,
-) -> Result<Option<Point>, OutOfMemory>
+pub fn reached(alloc: Global, play: &Play, turns: &[u32]) -> Result<Option<Point>, OutOfMemory>
     requires { length turns.now ≤ most_turns }
     ensures { IfOk result (λ o. MatchOption o (moment_after play.now turns.now ≡ None)
         (IsPointOf play.now turns.now)) }
 {
-    let mut point = stopped(alloc, play, Order::new(alloc), gate)?;
+    let mut point = stopped(alloc, play, Order::new(alloc))?;
     for task in turns {
-        match turned_by(alloc, play, point, *task, gate)? {
+        match turned_by(alloc, play, point, *task)? {
             Some(longer) => point = longer,
             None => return Ok(None),
         }

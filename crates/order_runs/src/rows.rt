@@ -10,7 +10,6 @@ ghost use Rattle.order_runs.specs.declared.part.Part.{Part};
 
 use crate::part::Part;
 use crate::ways::{Index, Way, root, spread};
-use ima_io::Gate;
 use order_outcomes::counts::Counted;
 use order_outcomes::outcome_of;
 use std::alloc::{AllocError as OutOfMemory, Global};
@@ -112,14 +111,13 @@ fn row_of(alloc: Global, way: &Way) -> Result<Row, OutOfMemory>
 
 // Adds the ways that are one turn longer. If there are none, the way is an order, which is counted
 // in the rows.
-fn advance_one<G: Gate>(
+fn advance_one(
     alloc: Global,
     part: &Part,
     way: &Way,
     next: &mut Vec<Way>,
     index: &mut Index,
     rows: &mut Vec<Row>,
-    gate: &G,
 ) -> Result<(), Stopped>
     requires kept { IsWayOf part.now way.now }
     requires turns { length way.now.point.turns < most_turns }
@@ -128,7 +126,7 @@ fn advance_one<G: Gate>(
     ensures too_many { IfErr result (λ why. why ≡ Stopped.TooMany
         → IsOverrun part.now way.now rows.old.items) }
 {
-    let any = spread(alloc, part, way, next, index, gate)?;
+    let any = spread(alloc, part, way, next, index)?;
     if !any {
         let row = row_of(alloc, way)?;
         add_row(alloc, rows, row)?;
@@ -138,13 +136,12 @@ fn advance_one<G: Gate>(
 
 // The ways that are one turn longer than those of the layer. Those that are orders are counted in
 // the rows.
-fn advance<G: Gate>(
+fn advance(
     alloc: Global,
     part: &Part,
     layer: &[Way],
     rows: &mut Vec<Row>,
     room: usize,
-    gate: &G,
 ) -> Result<Vec<Way>, Stopped>
     requires kept { All (IsWayOf part.now) layer.now }
     requires turns { All (λ way. length way.point.turns < most_turns) layer.now }
@@ -156,7 +153,7 @@ fn advance<G: Gate>(
     let mut next = Vec::new(alloc);
     let mut index = Index::new(alloc);
     for way in layer {
-        advance_one(alloc, part, way, &mut next, &mut index, rows, gate)?;
+        advance_one(alloc, part, way, &mut next, &mut index, rows)?;
         if next.len() > room {
             return Err(Stopped::TooMany);
         }
@@ -182,13 +179,7 @@ fn turns_left(part: &Part) -> u32
 }
 
 // The rows of the orders that go on from the first turns.
-fn rows_from<G: Gate>(
-    alloc: Global,
-    part: &Part,
-    way: Way,
-    most: usize,
-    gate: &G,
-) -> Result<Vec<Row>, Stopped>
+fn rows_from(alloc: Global, part: &Part, way: Way, most: usize) -> Result<Vec<Row>, Stopped>
     requires few { length part.now.first.items ≤ most_turns }
     requires root { IsRoot part.now way }
     ensures rows { IfOk result (λ rows. IsTable part.now.play part.now.first.items rows.items) }
@@ -204,7 +195,7 @@ fn rows_from<G: Gate>(
             return Err(Stopped::TooMany);
         }
         room -= layer.len();
-        layer = advance(alloc, part, layer.as_slice(), &mut rows, room, gate)?;
+        layer = advance(alloc, part, layer.as_slice(), &mut rows, room)?;
         if layer.is_empty() {
             return Ok(rows);
         }
@@ -216,19 +207,14 @@ fn rows_from<G: Gate>(
 /// move its task. At most `most` moments are met: `TooMany` is returned only if there are more ways
 /// to go on from the first turns, if one of them has with those as many turns as a schedule may
 /// have, or if there are more orders than 128 bits can count.
-pub fn rows_of<G: Gate>(
-    alloc: Global,
-    part: &Part,
-    most: usize,
-    gate: &G,
-) -> Result<Vec<Row>, Stopped>
+pub fn rows_of(alloc: Global, part: &Part, most: usize) -> Result<Vec<Row>, Stopped>
     requires { length part.now.first.items ≤ most_turns }
     ensures rows { IfOk result (λ rows. IsTable part.now.play part.now.first.items rows.items) }
     ensures too_many { IfErr result (λ why. why ≡ Stopped.TooMany
         → HasTooMany part.now.play part.now.first.items most) }
 {
-    match root(alloc, part, gate)? {
-        Some(way) => rows_from(alloc, part, way, most, gate),
+    match root(alloc, part)? {
+        Some(way) => rows_from(alloc, part, way, most),
         None => Ok(Vec::new(alloc)),
     }
 }

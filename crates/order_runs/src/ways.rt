@@ -10,7 +10,6 @@ ghost use Rattle.order_runs.specs.Steps.{AreAdded, CanMeet, IsMet, IsRoot, IsSpr
 
 use crate::part::Part;
 use crate::points::{Point, reached, turned};
-use ima_io::Gate;
 use order_outcomes::counts::{Counted, Order};
 use order_sights::are_alike;
 use std::alloc::{AllocError as OutOfMemory, Global};
@@ -26,11 +25,11 @@ pub struct Way {
 }
 
 /// The way that ends with the first turns, if each of those moves its task.
-pub fn root<G: Gate>(alloc: Global, part: &Part, gate: &G) -> Result<Option<Way>, OutOfMemory>
+pub fn root(alloc: Global, part: &Part) -> Result<Option<Way>, OutOfMemory>
     requires { length part.now.first.items ≤ most_turns }
     ensures { IfOk result (λ o. MatchOption o (opening part.now ≡ None) (IsRoot part.now)) }
 {
-    match reached(alloc, &part.play, part.first.as_slice(), gate)? {
+    match reached(alloc, &part.play, part.first.as_slice())? {
         Some(point) => {
             let order = Order::new(alloc);
             let counted = Counted { order, count: 1 };
@@ -41,20 +40,14 @@ pub fn root<G: Gate>(alloc: Global, part: &Part, gate: &G) -> Result<Option<Way>
 }
 
 // The way with one turn of the task more, if the turn moves it.
-fn lengthened<G: Gate>(
-    alloc: Global,
-    part: &Part,
-    way: &Way,
-    task: u32,
-    gate: &G,
-) -> Result<Option<Way>, OutOfMemory>
+fn lengthened(alloc: Global, part: &Part, way: &Way, task: u32) -> Result<Option<Way>, OutOfMemory>
     requires task { task < length part.now.play.programs }
     requires kept { IsWayOf part.now way.now }
     requires turns { length way.now.point.turns < most_turns }
     ensures { IfOk result (λ longer. (m : Moment) → led_on part.now way.now.counted.order ≡ Some m
         → IsTurned part.now way.now task (moved part.now.play m task) longer) }
 {
-    match turned(alloc, &part.play, &way.point, task, gate)? {
+    match turned(alloc, &part.play, &way.point, task)? {
         Some(point) => {
             let counted = way.counted.then(alloc, task)?;
             Ok(Some(Way { counted, point }))
@@ -226,13 +219,12 @@ fn add_longer(
 }
 
 /// Adds the ways that are one turn longer. Returns whether there are any.
-pub fn spread<G: Gate>(
+pub fn spread(
     alloc: Global,
     part: &Part,
     way: &Way,
     next: &mut Vec<Way>,
     index: &mut Index,
-    gate: &G,
 ) -> Result<bool, OutOfMemory>
     requires kept { IsWayOf part.now way.now }
     requires turns { length way.now.point.turns < most_turns }
@@ -242,7 +234,7 @@ pub fn spread<G: Gate>(
 {
     let mut any = false;
     for task in 0..part.play.tasks() {
-        let longer = lengthened(alloc, part, way, task, gate)?;
+        let longer = lengthened(alloc, part, way, task)?;
         any = add_longer(alloc, next, index, longer, any)?;
     }
     Ok(any)

@@ -14,7 +14,7 @@ use crate::sorting::sorted;
 use crate::status::DONE;
 use crate::text::{table_text, total_of};
 use crate::words::{Asked, asked_of};
-use ima_io::{Gate, Sink, Source, read_all, write_all};
+use ima_io::{Sink, Source, read_all, write_all};
 use order_runs::{Part, Play, Row, Stopped, rows_of};
 use script_text::{Fault, ScriptErr};
 use std::alloc::{AllocError as OutOfMemory, Global};
@@ -40,17 +40,12 @@ fn too_many_line(alloc: Global, most: usize) -> Result<Vec<u8>, OutOfMemory>
 }
 
 // The rows of the part, in the order in which they are printed.
-fn sorted_rows<G: Gate>(
-    alloc: Global,
-    part: &Part,
-    most: usize,
-    gate: &G,
-) -> Result<Vec<Row>, NotDone>
+fn sorted_rows(alloc: Global, part: &Part, most: usize) -> Result<Vec<Row>, NotDone>
     requires { length part.now.first.items ≤ most_turns }
     ensures { IsMade part.now.play (asking most part.now.first.items)
         (λ rows. AreSortedRows part.now.play part.now.first.items rows.items) result }
 {
-    match rows_of(alloc, part, most, gate) {
+    match rows_of(alloc, part, most) {
         Ok(rows) => Ok(sorted(alloc, rows)?),
         Err(Stopped::TooMany) => Err(NotDone::TooMany(too_many_line(alloc, most)?)),
         Err(Stopped::OutOfMemory) => Err(NotDone::OutOfMemory),
@@ -58,12 +53,12 @@ fn sorted_rows<G: Gate>(
 }
 
 // The text of the rows of the part.
-fn table<G: Gate>(alloc: Global, part: &Part, most: usize, gate: &G) -> Result<Bytes, NotDone>
+fn table(alloc: Global, part: &Part, most: usize) -> Result<Bytes, NotDone>
     requires { length part.now.first.items ≤ most_turns }
     ensures { IsMade part.now.play (asking most part.now.first.items)
         (IsTableText part.now.play part.now.first.items) result }
 {
-    let rows = sorted_rows(alloc, part, most, gate)?;
+    let rows = sorted_rows(alloc, part, most)?;
     let Some(total) = total_of(rows.as_slice()) else {
         return Err(NotDone::TooMany(too_many_line(alloc, most)?));
     };
@@ -72,14 +67,14 @@ fn table<G: Gate>(alloc: Global, part: &Part, most: usize, gate: &G) -> Result<B
 }
 
 // The text of the rows of the script that the input is.
-fn answer<G: Gate>(alloc: Global, input: Bytes, asked: Asked, gate: &G) -> Result<Bytes, NotDone>
+fn answer(alloc: Global, input: Bytes, asked: Asked) -> Result<Bytes, NotDone>
     requires input { length input ≤ most_input }
     requires first { length asked.first.items ≤ most_first }
     ensures { Answers (asked_value asked) input result }
 {
     let Asked { most, first } = asked;
     match Play::read(alloc, input) {
-        Ok(play) => table(alloc, &Part { play, first }, most, gate),
+        Ok(play) => table(alloc, &Part { play, first }, most),
         Err(ScriptErr::Refused(fault)) => Err(NotDone::Refused(bad_line(alloc, fault)?)),
         Err(ScriptErr::OutOfMemory) => Err(NotDone::OutOfMemory),
     }
@@ -102,12 +97,11 @@ fn read_input<S: Source>(alloc: Global, script: &mut S) -> Result<Bytes, NotDone
 }
 
 // Reads the whole script, makes its rows, and writes all of them.
-fn perform<S: Source, K: Sink, G: Gate>(
+fn perform<S: Source, K: Sink>(
     alloc: Global,
     asked: Asked,
     script: &mut S,
     out: &mut K,
-    gate: &G,
 ) -> Result<(), NotDone>
     requires { length asked.first.items ≤ most_first }
     ensures words { status_of result ≢ exit.usage }
@@ -124,18 +118,17 @@ fn perform<S: Source, K: Sink, G: Gate>(
         → Rose (K.faults out.old) (K.faults out.new) }
 {
     let input = read_input(alloc, script)?;
-    let output = answer(alloc, input, asked, gate)?;
+    let output = answer(alloc, input, asked)?;
     write_all(out, output.as_slice())?;
     Ok(())
 }
 
 // Finds what the words ask for and performs it.
-fn answer_words<S: Source, K: Sink, G: Gate>(
+fn answer_words<S: Source, K: Sink>(
     alloc: Global,
     words: &[String],
     script: &mut S,
     out: &mut K,
-    gate: &G,
 ) -> Result<(), NotDone>
     ensures usage { (status_of result ≡ exit.usage)
         ↔ IsNone (asked_of (map string_bytes words.now)) }
@@ -154,7 +147,7 @@ fn answer_words<S: Source, K: Sink, G: Gate>(
         → Rose (K.faults out.old) (K.faults out.new) }
 {
     match asked_of(alloc, words) {
-        Ok(asked) => perform(alloc, asked, script, out, gate),
+        Ok(asked) => perform(alloc, asked, script, out),
         Err(why) => Err(why),
     }
 }
@@ -172,14 +165,13 @@ fn tell<N: Sink>(note: &mut N, line: &[u8])
 /// status.
 ///
 /// The words don't include the program's name: the first is the most moments that may be met, and
-/// the second names the turns with which the orders begin. Each step of a task passes `gate` first.
-pub fn serve<S: Source, K: Sink, N: Sink, G: Gate>(
+/// the second names the turns with which the orders begin.
+pub fn serve<S: Source, K: Sink, N: Sink>(
     alloc: Global,
     words: &[String],
     script: &mut S,
     out: &mut K,
     note: &mut N,
-    gate: &G,
 ) -> u8
     ensures statuses { IsStatus result }
 
@@ -218,7 +210,7 @@ pub fn serve<S: Source, K: Sink, N: Sink, G: Gate>(
         ⊎ Rose (S.faults script.old) (S.faults script.new)
         ⊎ Rose (K.faults out.old) (K.faults out.new))) }
 {
-    match answer_words(alloc, words, script, out, gate) {
+    match answer_words(alloc, words, script, out) {
         Ok(()) => DONE,
         Err(why) => {
             tell(note, why.line());

@@ -91,11 +91,10 @@ pub fn tasks(play: &runs::Play) -> u32 {
     play.tasks()
 }
 
-pub fn sight<G: ima_io::Gate>(
+pub fn sight(
     alloc: Global,
     play: &runs::Play,
     turns: &counts::Order,
-    gate: &G,
     a: &sights::Sight,
     b: &sights::Sight,
 ) -> (
@@ -106,23 +105,22 @@ pub fn sight<G: ima_io::Gate>(
     requires { IsSchedule play.now turns.now }
 {
     (
-        play.sight(alloc, turns, gate),
+        play.sight(alloc, turns),
         a.mark(),
         sights::are_alike(alloc, a, b),
     )
 }
 
-pub fn rows_of<G: ima_io::Gate>(
+pub fn rows_of(
     alloc: Global,
     part: &runs::Part,
     most: usize,
-    gate: &G,
 ) -> Result<Vec<runs::Row>, runs::Stopped>
     requires { length part.now.first.items ≤ most_turns }
 {
     let _: runs::Play = part.play;
     let _: Vec<u32> = part.first;
-    runs::rows_of(alloc, part, most, gate)
+    runs::rows_of(alloc, part, most)
 }
 
 pub fn rows(row: &runs::Row, stopped: runs::Stopped) {
@@ -136,13 +134,12 @@ pub fn rows(row: &runs::Row, stopped: runs::Stopped) {
 
 // ---- order_top
 
-pub fn serve<S: ima_io::Source, K: ima_io::Sink, N: ima_io::Sink, G: ima_io::Gate>(
+pub fn serve<S: ima_io::Source, K: ima_io::Sink, N: ima_io::Sink>(
     alloc: Global,
     words: &[String],
     script: &mut S,
     out: &mut K,
     note: &mut N,
-    gate: &G,
 ) -> u8 {
-    order_top::serve(alloc, words, script, out, note, gate)
+    order_top::serve(alloc, words, script, out, note)
 }

@@ -1,5 +1,4 @@
 // Calls `serve` with words and streams in memory.
-use ima_io::FreeGate;
 use order_top::serve;
 use std::alloc::{AllocError as OutOfMemory, Global};
 use worked_calls::{Call, Outcome, words_of};
@@ -9,7 +8,7 @@ pub fn answer_over(alloc: Global, call: Call<'_>) -> Result<Outcome, OutOfMemory
     let words = words_of(alloc, call.words)?;
     let mut did = Outcome::before(alloc, call)?;
     let (input, out) = (&mut did.input, &mut did.out);
-    did.status = serve(alloc, &words, input, out, &mut did.note, &FreeGate);
+    did.status = serve(alloc, &words, input, out, &mut did.note);
     Ok(did)
 }
 

@@ -4,4 +4,4 @@ use Rattle.order_runs.specs.Points.{IsPointOf}
 use Rattle.order_runs.proofs.points.reached.Given as goal
 
 abbrev pub invariant-loop-task : goal.invariant-loop-task
-invariant-loop-task g l = IsPointOf l.play (take l.task-index l.turns) l.point
+invariant-loop-task l = IsPointOf l.play (take l.task-index l.turns) l.point

@@ -10,13 +10,13 @@ chosen true x = refl
 chosen false x = refl
 
 pub stopped-requires : goal.stopped-requires
-stopped-requires g c =
+stopped-requires c =
     subst (IsSchedule c.args.play.now) (sym c.in_ok-turns.ensures)
     (more_fits c.args.play.now c.args.point.now c.requires.point c.args.task c.requires.task
     c.requires.turns)
 
 pub returns : goal.returns
-returns g c = λ m leads.
+returns c = λ m leads.
     moved_unless c.args.play.now c.args.point.now c.requires.point c.args.task
     c.in_ok-longer.longer (c.in_ok-longer.ensures.turns ∙ c.in_ok-turns.ensures)
     c.in_ok-longer.ensures.made

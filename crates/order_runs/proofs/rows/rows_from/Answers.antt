@@ -11,7 +11,7 @@ use Rattle.order_runs.proofs.Stepping.{opens}
 use Rattle.order_runs.proofs.rows.rows_from.Goals as goal
 
 pub advance-requires-clause-turns : goal.advance-requires-clause-turns
-advance-requires-clause-turns g c =
+advance-requires-clause-turns c =
     subst (λ (ways : List Way). All (λ (w : Way). length w.point.turns < most_turns) ways)
     (sym c.as_slice.ensures.value)
     (layer_short c.args.part.now c.loop-turn.turn c.loop-turn.layer.items
@@ -19,7 +19,7 @@ advance-requires-clause-turns g c =
     (omega (arith, c.loop-turn-test.true, c.turns_left-more.ensures)))
 
 pub loop-turn-init : goal.loop-turn-init
-loop-turn-init g c =
+loop-turn-init c =
     let part = c.args.part.now in
     let way = c.args.way in
     subst (λ (rows : List Row). IsCounting part c.args.most 0 c.in_ok-layer.layer.items rows
@@ -31,7 +31,7 @@ loop-turn-init g c =
     ∙ ap (λ (x : Counted). x ∷ []) c.requires.root.0))
 
 pub loop-turn-preserved : goal.loop-turn-preserved
-loop-turn-preserved g c =
+loop-turn-preserved c =
     counting_next c.args.part.now c.args.most c.loop-turn.turn c.loop-turn.layer.items
     c.loop-turn.rows.items c.loop-turn.room c.loop-turn.invariant
     (c.loop-turn.room - c.len-room.result)
@@ -47,7 +47,7 @@ loop-turn-preserved g c =
     ))
 
 pub returns-then-is_empty-clause-rows : goal.returns-then-is_empty-clause-rows
-returns-then-is_empty-clause-rows g c =
+returns-then-is_empty-clause-rows c =
     let empty : c.in_ok-layer-2.layer.items ≡ [] =
     nil_from_length c.in_ok-layer-2.layer.items (sym c.in_ok-layer-2.layer.ok.0
     ∙ eqb-true c.in_ok-layer-2.layer.len 0 (sym c.is_empty.ensures ∙ c.if-is_empty.true)) in
@@ -63,14 +63,14 @@ returns-then-is_empty-clause-rows g c =
     c.in_ok-layer-2.ensures.step))))
 
 pub returns-then-room-len-clause-too_many : goal.returns-then-room-len-clause-too_many
-returns-then-room-len-clause-too_many g c = λ is.
+returns-then-room-len-clause-too_many c = λ is.
     too_many_is c.args.part.now c.args.most (opens c.args.part.now c.args.way c.requires.root)
     (too_wide c.args.part.now c.args.most c.loop-turn.turn c.loop-turn.layer.items
     c.loop-turn.rows.items c.loop-turn.room c.loop-turn.invariant
     (omega (arith, c.if-room-len.true, c.len.ensures, c.loop-turn.layer.ok.0)))
 
 pub returns-in_err-layer-2-clause-too_many : goal.returns-in_err-layer-2-clause-too_many
-returns-in_err-layer-2-clause-too_many g c =
+returns-in_err-layer-2-clause-too_many c =
     told _ _ c.in_err-layer-2.field-0.0 c.from_residual-in_err-layer-2.result
     c.in_err-layer-2.ensures.too_many
     (λ x. too_many_is c.args.part.now c.args.most
@@ -88,7 +88,7 @@ returns-in_err-layer-2-clause-too_many g c =
     c.from_residual-in_err-layer-2.ensures.1
 
 pub returns-clause-too_many : goal.returns-clause-too_many
-returns-clause-too_many g c = λ is.
+returns-clause-too_many c = λ is.
     too_many_is c.args.part.now c.args.most (opens c.args.part.now c.args.way c.requires.root)
     (too_long c.args.part.now c.args.most c.loop-turn.turn c.loop-turn.layer.items
     c.loop-turn.rows.items c.loop-turn.room c.loop-turn.invariant

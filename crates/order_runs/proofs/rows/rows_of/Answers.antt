@@ -8,12 +8,12 @@ use Rattle.order_runs.proofs.Stopping.{no_rows}
 use Rattle.order_runs.proofs.rows.rows_of.Goals as goal
 
 pub rows_from-requires-clause-root : goal.rows_from-requires-clause-root
-rows_from-requires-clause-root g c =
+rows_from-requires-clause-root c =
     subst (λ (o : Option Way). MatchOption o (opening c.args.part.now ≡ None)
     (IsRoot c.args.part.now)) c.in-Some.is c.in_ok-way.ensures
 
 pub returns-in-None-clause-rows : goal.returns-in-None-clause-rows
-returns-in-None-clause-rows g c =
+returns-in-None-clause-rows c =
     subst (λ (rows : List Row). IsTable c.args.part.now.play c.args.part.now.first.items rows)
     (sym c.new.ensures.items)
     (no_rows c.args.part.now.play c.args.part.now.first.items

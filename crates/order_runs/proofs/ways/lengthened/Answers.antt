@@ -6,10 +6,10 @@ use Rattle.order_runs.proofs.Stepping.{longer_none, longer_some}
 use Rattle.order_runs.proofs.ways.lengthened.Goals as goal
 
 pub turned-requires-clause-point : goal.turned-requires-clause-point
-turned-requires-clause-point g c = (c.requires.kept.at, c.requires.kept.point)
+turned-requires-clause-point c = (c.requires.kept.at, c.requires.kept.point)
 
 pub returns-in-None : goal.returns-in-None
-returns-in-None g c =
+returns-in-None c =
     let play = c.args.part.now.play in
     let k = c.requires.kept in
     longer_none c.args.part.now c.args.way.now k c.args.task
@@ -17,7 +17,7 @@ returns-in-None g c =
     (moved play k.at c.args.task) o) c.in-None.is (c.in_ok-point.ensures k.at k.point.leads))
 
 pub returns-in_ok-counted-in-Some : goal.returns-in_ok-counted-in-Some
-returns-in_ok-counted-in-Some g c =
+returns-in_ok-counted-in-Some c =
     let play = c.args.part.now.play in
     let k = c.requires.kept in
     longer_some c.args.part.now c.args.way.now k c.args.task c.in-Some.point

@@ -8,11 +8,11 @@ use Rattle.order_runs.proofs.Stepping.{kept_first}
 use Rattle.order_runs.proofs.ways.root.Goals as goal
 
 pub reached-requires : goal.reached-requires
-reached-requires g c =
+reached-requires c =
     subst (λ (turns : List ℕ). length turns ≤ most_turns) (sym c.as_slice.ensures.value) c.requires
 
 pub returns-in-Some : goal.returns-in-Some
-returns-in-Some g c =
+returns-in-Some c =
     let play = c.args.part.now.play in
     kept_first c.args.part.now
     (record {
@@ -25,7 +25,7 @@ returns-in-Some g c =
     (IsPointOf play c.as_slice.result.now)) c.in-Some.is c.in_ok-point.ensures))
 
 pub returns-in-None : goal.returns-in-None
-returns-in-None g c =
+returns-in-None c =
     let play = c.args.part.now.play in
     subst (λ (turns : List ℕ). moment_after play turns ≡ None) c.as_slice.ensures.value
     (subst (λ (o : Option Point). MatchOption o (moment_after play c.as_slice.result.now ≡ None)

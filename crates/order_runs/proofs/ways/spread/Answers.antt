@@ -9,7 +9,7 @@ use Rattle.order_runs.proofs.Stepping.{rests_more, spreads_more, with_kept}
 use Rattle.order_runs.proofs.ways.spread.Goals as goal
 
 pub loop-task-preserved : goal.loop-task-preserved
-loop-task-preserved g c =
+loop-task-preserved c =
     let part = c.args.part.now in
     let way = c.args.way.now in
     let n = c.loop-task.task in
@@ -32,7 +32,7 @@ loop-task-preserved g c =
     }
 
 pub returns : goal.returns
-returns g c =
+returns c =
     let part = c.args.part.now in
     let way = c.args.way.now in
     let end : c.loop-task.task ≡ length part.play.programs =

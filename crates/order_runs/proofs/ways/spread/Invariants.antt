@@ -10,7 +10,7 @@ use Rattle.order_runs.specs.Steps.{IsWayOf, begun, counted_ways, led_on}
 use Rattle.order_runs.proofs.ways.spread.Given as goal
 
 abbrev pub invariant-loop-task : goal.invariant-loop-task
-invariant-loop-task g l = record {
+invariant-loop-task l = record {
   spreads : (m : Moment) → led_on l.part l.way.counted.order ≡ Some m
       → All (IsWayOf l.part) l.fn.next.items
       → Spreads (moved l.part.play) (IsAlike l.part.play) (begun l.part) m l.way.counted

@@ -2,7 +2,7 @@ use Rattle.order_runs.proofs.Playing.{sighted}
 use Rattle.order_runs.proofs.play.Play.sight.Goals as goal
 
 pub returns : goal.returns
-returns g c =
+returns c =
     sighted c.args.self.now c.args.turns.now c.in_ok-closing.closing
     c.in_ok-closing.closing_tasks.items (record {
       ended = c.in_ok-ended.ended;
