@@ -14,7 +14,7 @@ use Rattle.script_text.specs.events.declared.told.Event.{Event}
 use Rattle.script_text.specs.events.declared.told.Told.{Told}
 use Rattle.script_text.specs.steps.declared.call.Call.{Call}
 use Rattle.script_text.specs.steps.templates.declared.entry.Placed.{Placed}
-use Rattle.kernel_read_laws.specs.Reads.{is_of_call, place_of_call, placed_by, read_by}
+use Rattle.run_laws.specs.kernel_reads.Reads.{is_of_call, place_of_call, placed_by, read_by}
 use Rattle.kernel_read.specs.Places.{HasShape, calls_in, cell, flat, is_some_of, named_by, noted, placed_at, placed_in, reads}
 
 -- the cells of a task

@@ -20,7 +20,7 @@ use Rattle.script_text.specs.events.declared.deed.How.TheVariants as how
 use Rattle.script_text.specs.events.declared.told.Event.{Event}
 use Rattle.script_text.specs.events.declared.told.Told.{Told}
 use Rattle.script_text.specs.events.declared.told.Told.TheVariants as told
-use Rattle.kernel_read_laws.specs.model.EndedValue.{EndedTaskValue}
+use Rattle.run_laws.specs.model.EndedValue.{EndedTaskValue}
 use Rattle.kernel_read.specs.Table.{table_lines, task_lines}
 
 -- ---- an inode, its events and its readers

@@ -2,4 +2,4 @@ pub mod Cells
 pub mod Listed
 pub mod Printing
 mod Examples
-pub use Rattle.kernel_read_laws.proofs as about_laws
+pub use Rattle.run_laws.proofs.kernel_reads as about_laws

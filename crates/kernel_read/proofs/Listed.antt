@@ -12,12 +12,12 @@ use Rattle.script_text.specs.events.declared.told.Event.{Event}
 use Rattle.script_text.specs.events.declared.told.Grant.{Grant}
 use Rattle.script_text.specs.events.declared.told.Told.TheVariants as told
 use Rattle.script_text.specs.steps.templates.declared.entry.Placed.{Placed}
-use Rattle.kernel_read_laws.specs.Reads.{IsReadSoundly, is_of_call, place_of_call, placed_by}
-use Rattle.kernel_read_laws.specs.laws_of_journals.Executed.{grant_event}
-use Rattle.kernel_read_laws.specs.model.EndedValue.{inodes_ended}
-use Rattle.kernel_read_laws.specs.model.Scene.{Scene, ScriptFile, inode_of}
-use Rattle.kernel_read_laws.proofs.Journals.{stands_there}
-use Rattle.kernel_read_laws.proofs.Sound.{reads_soundly}
+use Rattle.run_laws.specs.kernel_reads.Reads.{IsReadSoundly, is_of_call, place_of_call, placed_by}
+use Rattle.run_laws.specs.laws_of_journals.Executed.{grant_event}
+use Rattle.run_laws.specs.model.EndedValue.{inodes_ended}
+use Rattle.run_laws.specs.model.Scene.{Scene, ScriptFile, inode_of}
+use Rattle.run_laws.proofs.kernel_reads.Journals.{stands_there}
+use Rattle.run_laws.proofs.kernel_reads.Sound.{reads_soundly}
 use Rattle.kernel_read.specs.Listed.{MeasuredReadsAreListed}
 use Rattle.kernel_read.specs.Places.{named_by}
 use Rattle.kernel_read.specs.Table.{call_line, func_raised, inode_line, load_line}

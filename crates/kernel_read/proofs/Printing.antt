@@ -22,7 +22,7 @@ use Rattle.report_text.specs.Texts.{line_text}
 use Rattle.report_text.specs.Words.{Line, or_dash, placed_words}
 use Rattle.report_text.proofs.Joins.{join_append}
 use Rattle.report_text.proofs.Pushed.{reply_filled}
-use Rattle.kernel_read_laws.specs.Reads.{read_by}
+use Rattle.run_laws.specs.kernel_reads.Reads.{read_by}
 use Rattle.kernel_read.specs.Lines.{hook_text, table_text}
 use Rattle.kernel_read.specs.Places.{HasPlaces, HasShape, calls_in, cell, flat, placed_at, placed_in, read_at}
 use Rattle.kernel_read.specs.Table.{call_line, call_lines, func_raised, inode_line, load_line, table_lines, task_lines}

@@ -2,4 +2,4 @@ pub mod Lines
 pub mod Listed
 pub mod Places
 pub mod Table
-pub use Rattle.kernel_read_laws.specs as laws
+pub use Rattle.run_laws.specs.kernel_reads as laws

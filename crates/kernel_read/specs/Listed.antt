@@ -18,14 +18,14 @@ use Rattle.script_text.specs.steps.declared.ending.Ending.{Ending}
 use Rattle.script_text.specs.steps.declared.reply.Reply.{Reply}
 use Rattle.script_text.specs.steps.templates.declared.entry.Entry.{Entry}
 use Rattle.script_text.specs.steps.templates.declared.entry.Placed.{Placed}
-use Rattle.kernel_read_laws.specs.Reads.{is_of_call, read_by, reply_with}
-use Rattle.kernel_read_laws.specs.laws_of_journals.Executed.{grant_event}
-use Rattle.kernel_read_laws.specs.laws_of_runs.Places.{HasForms}
-use Rattle.kernel_read_laws.specs.model.EndedValue.{ended_of}
-use Rattle.kernel_read_laws.specs.model.History.{Position}
-use Rattle.kernel_read_laws.specs.model.Scene.{Program, Scene, ScriptFile, inode_of}
-use Rattle.kernel_read_laws.specs.model.Served.{Run}
-use Rattle.kernel_read_laws.specs.model.Shown.{IsShown}
+use Rattle.run_laws.specs.kernel_reads.Reads.{is_of_call, read_by, reply_with}
+use Rattle.run_laws.specs.laws_of_journals.Executed.{grant_event}
+use Rattle.run_laws.specs.shown.Places.{HasForms}
+use Rattle.run_laws.specs.model.EndedValue.{ended_of}
+use Rattle.run_laws.specs.model.History.{Position}
+use Rattle.run_laws.specs.model.Scene.{Program, Scene, ScriptFile, inode_of}
+use Rattle.run_laws.specs.model.Served.{Run}
+use Rattle.run_laws.specs.model.Shown.{IsShown}
 use Rattle.kernel_read.specs.Table.{call_line, func_raised, load_line}
 
 -- The lines of call k of task n, which read this inode and was answered with `r`: there is one, and

@@ -7,7 +7,7 @@ use Rattle.script_text.specs.steps.declared.call.Call.{Call}
 use Rattle.script_text.specs.steps.templates.declared.entry.Placed.{Placed}
 use Rattle.script_text.specs.events.EndedInode.{EndedInodeValue}
 use Rattle.script_text.specs.events.declared.told.Event.{Event}
-use Rattle.kernel_read_laws.specs.Reads.{is_of_call, place_of_call, placed_by, read_by}
+use Rattle.run_laws.specs.kernel_reads.Reads.{is_of_call, place_of_call, placed_by, read_by}
 
 -- the calls of each task
 abbrev pub calls_in : List TaskBlock → List (List Call)

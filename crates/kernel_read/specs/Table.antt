@@ -14,9 +14,9 @@ use Rattle.script_text.specs.steps.policy.ValueTexts.{func_word}
 use Rattle.script_text.specs.steps.policy.declared.rule.Func.{Func}
 use Rattle.script_text.specs.steps.templates.declared.entry.Placed.{Placed}
 use Rattle.script_text.specs.events.EndedInode.{EndedInodeValue}
-use Rattle.kernel_read_laws.specs.Reads.{place_of_call, read_by}
+use Rattle.run_laws.specs.kernel_reads.Reads.{place_of_call, read_by}
 use Rattle.kernel_read.specs.Places.{calls_in}
-use Rattle.kernel_read_laws.specs.model.EndedValue.{EndedTaskValue, EndedValue}
+use Rattle.run_laws.specs.model.EndedValue.{EndedTaskValue, EndedValue}
 use Rattle.report_text.specs.Numerals.{numeral}
 
 -- the hook that the call raises

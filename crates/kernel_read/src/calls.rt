@@ -3,7 +3,7 @@
 ghost use Rattle.std.specs.Prelude.{◌≡◌, option_map};
 ghost use Rattle.kernel_read.specs.Places.{calls_in, reads};
 ghost use Rattle.kernel_read.specs.Table.{func_raised};
-ghost use Rattle.kernel_read_laws.specs.Reads.{placed_by, read_by};
+ghost use Rattle.run_laws.specs.kernel_reads.Reads.{placed_by, read_by};
 
 use inode_events::templates::Placed;
 use inode_events::{Deed, Event, Told};

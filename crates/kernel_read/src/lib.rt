@@ -1,8 +1,8 @@
 //! The table of the kernel's reads: a line for each answered call by which the kernel reads a
 //! module or a firmware file, with the place in the measurement list that the call's grant names.
 //!
-//! What holds of these calls are the laws of `kernel_read_laws`. [`measured_reads_are_listed`] ties
-//! them to the lines of the table.
+//! What holds of these calls is the law `kernel_reads_soundly` of `run_laws`.
+//! [`measured_reads_are_listed`] ties it to the lines of the table.
 #![tactic(auto)]
 
 mod calls;

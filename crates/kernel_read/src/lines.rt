@@ -5,7 +5,7 @@ ghost use Rattle.std.specs.List.{join_with_byte};
 ghost use Rattle.report_text.specs.Texts.{line_text};
 ghost use Rattle.report_text.specs.Words.{or_dash, placed_words};
 ghost use Rattle.script_text.specs.events.forms.Words.{text_of};
-ghost use Rattle.kernel_read_laws.specs.Reads.{read_by};
+ghost use Rattle.run_laws.specs.kernel_reads.Reads.{read_by};
 ghost use Rattle.kernel_read.specs.Lines.{hook_text};
 ghost use Rattle.kernel_read.specs.Places.{HasPlaces, calls_in, placed_in};
 ghost use Rattle.kernel_read.specs.Table.{call_line, call_lines, load_line, task_lines};

@@ -3,7 +3,7 @@
 ghost use Rattle.std.specs.Prelude.{◌≡◌, ℕ, ◌<◌, None, Some, length, replicate, slice_get, slice_set, get_or, IfOk};
 ghost use Rattle.std.specs.Option.{option_or};
 ghost use Rattle.kernel_read.specs.Places.{HasPlaces, HasShape, calls_in, cell, named_by, noted, reads};
-ghost use Rattle.kernel_read_laws.specs.Reads.{place_of_call};
+ghost use Rattle.run_laws.specs.kernel_reads.Reads.{place_of_call};
 
 use crate::calls::{is_read, placed_by};
 use inode_events::templates::Placed;

@@ -3,7 +3,7 @@ use Rattle.std.proofs.Common.{◌≡◌, ℕ, zero, suc, ◌+◌, ◌<◌, ◌�
 use Rattle.std.specs.Prelude.{All, reverse}
 use Rattle.std.proofs.lemmas.Option.{get_or_from_slice_get, none-some, same_Some, slice_get-map, slice_get_within}
 use Rattle.call_steps.specs.declared.call.Call.{Call}
-use Rattle.progress_laws.proofs.Totals.{count_past, counted_when_reached}
+use Rattle.run_laws.proofs.progress.Totals.{count_past, counted_when_reached}
 use Rattle.inode_cell.specs.Value.{CellValue}
 use Rattle.inode_events.specs.Checks.{last_check}
 use Rattle.inode_events.specs.EndedInode.{EndedInodeValue, ended_inode}

@@ -19,8 +19,8 @@ use Rattle.run_model.specs.History.{Position, own}
 use Rattle.run_model.specs.Scene.{Program, Scene, ScriptFile, inode_of, mode_of}
 use Rattle.run_model.specs.Served.{IsServed, Run}
 use Rattle.run_model.specs.Shown.{IsShown, journals_of}
-use Rattle.shown_laws.proofs.Named.{list_named}
-use Rattle.shown_laws.proofs.Sound.{journal_has}
+use Rattle.run_laws.proofs.shown.Named.{list_named}
+use Rattle.run_laws.proofs.shown.Sound.{journal_has}
 use Rattle.report_text.specs.Ranges.{Fits, FitsInode, IsClean, IsDeed, IsReply}
 use Rattle.report_laws.specs.Law.{HasNames}
 use Rattle.report_laws.proofs.Attributes.{AreNamed, attributes_named}

@@ -22,7 +22,7 @@ use Rattle.call_steps.specs.declared.ending.Ending.{Ending}
 use Rattle.report_text.specs.Printed.{IsOneScript, IsTold, printed}
 use Rattle.inode_events.specs.EndedInode.{EndedInodeValue as EndedInode, ended_inode}
 use Rattle.report_text.proofs.Whole.{report_tells}
-use Rattle.shown_laws.proofs.Sound.{journal_has}
+use Rattle.run_laws.proofs.shown.Sound.{journal_has}
 use Rattle.report_laws.specs.Law.{IsSameRun, ReportDetermines}
 use Rattle.report_laws.proofs.Fitting.{shown_fits}
 use Rattle.run_model.specs.EndedValue.{EndedTaskValue as EndedTask, ended_of, grows, inodes_ended, tasks_ended}

@@ -9,7 +9,7 @@ use Rattle.run_model.specs.EndedValue.{ended_of}
 use Rattle.run_model.specs.Scene.{Program, Scene, ScriptFile}
 use Rattle.run_model.specs.Served.{Run}
 use Rattle.run_model.specs.Shown.{IsShown}
-use Rattle.shown_laws.specs.Places.{HasForms}
+use Rattle.run_laws.specs.shown.Places.{HasForms}
 use Rattle.report_text.specs.Ranges.{IsChange, IsClean}
 use Rattle.report_text.specs.Report.{report_of}
 use Rattle.ima_templates.specs.xattrs.Attrs.{Pair}

@@ -11,4 +11,7 @@ pub mod Turning
 pub mod Owned
 pub mod Serving
 pub mod Passing
+pub mod progress
+pub mod shown
+pub mod kernel_reads
 pub use Rattle.journal_laws.proofs as laws_of_journals

@@ -5,6 +5,9 @@ pub mod Checks
 pub mod ScriptFiles
 pub mod Moments
 pub mod Histories
+pub mod progress
+pub mod shown
+pub mod kernel_reads
 pub use Rattle.grow_list.specs as growing
 pub use Rattle.journal_laws.specs as laws_of_journals
 pub use Rattle.run_model.specs as model

@@ -23,9 +23,9 @@ use Rattle.script_text.proofs.Holding.{left_true, right_true}
 use Rattle.script_text.specs.ScriptValue.{ScriptValue}
 use Rattle.report_laws.proofs.Ends.{beginning_determines}
 use Rattle.report_text.specs.Report.{report_of}
-use Rattle.shown_laws.proofs.Denied.{denied_there}
-use Rattle.shown_laws.proofs.Sound.{admitted_there, covered_there, fresh_there, labelled_there, rare_there}
-use Rattle.shown_laws.specs.Places.{HasForms}
+use Rattle.run_laws.proofs.shown.Denied.{denied_there}
+use Rattle.run_laws.proofs.shown.Sound.{admitted_there, covered_there, fresh_there, labelled_there, rare_there}
+use Rattle.run_laws.specs.shown.Places.{HasForms}
 use Rattle.task_runner.specs.worlds.WorldConsts as worlds
 use Rattle.task_runner.specs.worlds.Runs as runs
 use Rattle.task_runner.specs.worlds.Runs.{programs_of}

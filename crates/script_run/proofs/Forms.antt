@@ -21,7 +21,7 @@ use Rattle.script_text.proofs.Holding.{left_true, right_true}
 use Rattle.policy_rules.specs.forms.Words.{is_visible}
 use Rattle.script_scene.specs.Scene.{IsForFiles, boot_by, scene_of, script_file_of}
 use Rattle.script_scene.proofs.Paths.{measured_path}
-use Rattle.shown_laws.specs.Places.{HasForms}
+use Rattle.run_laws.specs.shown.Places.{HasForms}
 
 -- the paths of a script's files can be shown by each template
 paths_shown : (supers : List Super) (files : List FileBlock)

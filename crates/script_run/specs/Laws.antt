@@ -8,7 +8,7 @@ use Rattle.run_model.specs.Shown.{IsShown}
 use Rattle.script_scene.specs.Scene.{IsForFiles, scene_of}
 use Rattle.script_text.specs.Forms.{IsScript}
 use Rattle.script_text.specs.ScriptValue.{ScriptValue}
-use Rattle.shown_laws.specs.Laws.{IsSound}
+use Rattle.run_laws.specs.shown.Laws.{IsSound}
 
 -- whatever run may be shown for a script is fresh, covered, admitted, denied, labelled and rarely
 -- hashed

@@ -23,7 +23,7 @@ use Rattle.script_text.specs.declared.blocks.TaskBlock.{TaskBlock}
 use Rattle.task_runner.specs.Passes.{HasRunOnThreads}
 use Rattle.task_runner.specs.worlds.Tasks.{Tasked}
 use Rattle.task_runner.specs.worlds.World.{WorldValue}
-use Rattle.shown_laws.specs.Laws.{AreAdmitted, AreDenied, AreLabelled, AreReadsCovered, IsFresh, IsRarelyHashed}
+use Rattle.run_laws.specs.shown.Laws.{AreAdmitted, AreDenied, AreLabelled, AreReadsCovered, IsFresh, IsRarelyHashed}
 
 -- what is promised of a run of this scene with this ending, and of the state `e` that it leaves
 pub record Promised (scene : Scene) (ending : Ending) (run : Run) (e : EndedValue) : Type 0 where

@@ -13,4 +13,4 @@ pub mod Turning
 pub mod Rounding
 pub use Rattle.inode_cell.proofs.laws_of_journals
 pub use Rattle.run_laws.proofs as laws_of_runs
-pub use Rattle.progress_laws.proofs as laws_of_progress
+pub use Rattle.run_laws.proofs.progress as laws_of_progress

@@ -14,7 +14,7 @@ pub mod WorldRuns
 pub mod TurnLaws
 pub use Rattle.inode_cell.specs.laws_of_journals
 pub use Rattle.run_laws.specs as laws_of_runs
-pub use Rattle.progress_laws.specs as laws_of_progress
+pub use Rattle.run_laws.specs.progress as laws_of_progress
 pub use Rattle.task_state.specs as task_states
 pub use Rattle.inode_cell.specs as inodes
 pub use Rattle.run_laws.specs.steps

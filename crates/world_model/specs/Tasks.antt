@@ -23,8 +23,8 @@ use Rattle.run_laws.specs.rules.declared.cell.RuleEntry.{RuleEntry}
 use Rattle.run_laws.specs.Checks.{ChecksFit, seen_by}
 use Rattle.run_laws.specs.model.History.{Answer, own, own_rules, own_signals, position, step_at}
 use Rattle.run_laws.specs.model.Scene.{Program}
-use Rattle.progress_laws.specs.NextSteps.{IsFit}
-use Rattle.progress_laws.specs.ScriptFiles.{IsWithin}
+use Rattle.run_laws.specs.progress.NextSteps.{IsFit}
+use Rattle.run_laws.specs.progress.ScriptFiles.{IsWithin}
 use Rattle.world_model.specs.WorldConsts.{InodeConsts, WorldConsts, inode_in, mode_in, scene_of}
 use Rattle.world_model.specs.declared.hash_state.HashState.{HashState}
 use Rattle.world_model.specs.declared.hash_state.HashState.TheVariants as hash_state

@@ -6,7 +6,7 @@ use Rattle.std.proofs.lemmas.Option.{slice_get-get_or, slice_get-map, slice_get_
 use Rattle.script_text.specs.declared.blocks.TaskBlock.{TaskBlock}
 use Rattle.script_text.specs.steps.declared.call.Call.{Call}
 use Rattle.script_text.specs.steps.policy.declared.rule.Func.{Func}
-use Rattle.kernel_read_laws.specs.Reads.{read_by}
+use Rattle.run_laws.specs.kernel_reads.Reads.{read_by}
 use Rattle.kernel_read.specs.Places.{calls_in, is_some_of, read_at, reads}
 use Rattle.kernel_read.specs.Table.{func_raised}
 use Rattle.kernel_read.proofs.calls.is_read.Goals as goal

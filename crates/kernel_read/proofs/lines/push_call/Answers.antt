@@ -11,7 +11,7 @@ use Rattle.script_text.specs.steps.declared.reply.Reply.{Reply}
 use Rattle.script_text.specs.steps.policy.declared.rule.Func.{Func}
 use Rattle.report_text.specs.Texts.{line_text}
 use Rattle.report_text.specs.Words.{Line}
-use Rattle.kernel_read_laws.specs.Reads.{read_by}
+use Rattle.run_laws.specs.kernel_reads.Reads.{read_by}
 use Rattle.kernel_read.specs.Places.{placed_in}
 use Rattle.kernel_read.specs.Table.{call_line, func_raised, inode_line, load_line}
 use Rattle.kernel_read.proofs.Printing.{call_pushed, line_grows}

@@ -2,7 +2,7 @@ use Rattle.std.proofs.Common.{List, ◌≡◌, ℕ, ◌+◌, ◌<◌, ◌++◌, 
 use Rattle.std.proofs.lemmas.Option.{slice_get-get_or}
 use Rattle.script_text.specs.steps.declared.call.Call.{Call}
 use Rattle.script_text.specs.steps.declared.reply.Reply.{Reply}
-use Rattle.kernel_read_laws.specs.Reads.{read_by}
+use Rattle.run_laws.specs.kernel_reads.Reads.{read_by}
 use Rattle.kernel_read.specs.Table.{call_line, call_lines}
 use Rattle.kernel_read.proofs.Printing.{count_end, count_on, no_replies, pairs_end, pairs_more, text_end, text_on}
 use Rattle.kernel_read.proofs.lines.push_task.Goals as goal

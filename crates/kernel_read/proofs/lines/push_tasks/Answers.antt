@@ -3,7 +3,7 @@ use Rattle.std.specs.Prelude.{slice_get}
 use Rattle.script_text.specs.events.forms.Words.{text_of}
 use Rattle.script_text.specs.steps.declared.call.Call.{Call}
 use Rattle.report_text.specs.Words.{Line}
-use Rattle.kernel_read_laws.specs.model.EndedValue.{EndedTaskValue}
+use Rattle.run_laws.specs.model.EndedValue.{EndedTaskValue}
 use Rattle.kernel_read.specs.Places.{calls_in}
 use Rattle.kernel_read.specs.Table.{call_lines, task_lines}
 use Rattle.kernel_read.proofs.Printing.{count_end, count_on, no_tasks, pairs_end, pairs_more, row_has, row_within, text_end, text_on}

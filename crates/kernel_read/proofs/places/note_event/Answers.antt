@@ -2,7 +2,7 @@ use Rattle.std.proofs.Common.{◌≡◌, ℕ, Bool, true, false, cond, List, [],
 use Rattle.script_text.specs.events.declared.told.Event.{Event}
 use Rattle.script_text.specs.steps.declared.call.Call.{Call}
 use Rattle.script_text.specs.steps.templates.declared.entry.Placed.{Placed}
-use Rattle.kernel_read_laws.specs.Reads.{is_of_call, placed_by}
+use Rattle.run_laws.specs.kernel_reads.Reads.{is_of_call, placed_by}
 use Rattle.kernel_read.specs.Places.{calls_in, cell, named_by, noted, reads}
 use Rattle.kernel_read.proofs.Cells.{cell_within, event_left, event_noted, noted_none, shape_set}
 use Rattle.kernel_read.proofs.places.note_event.Goals as goal

@@ -1,7 +1,7 @@
 use Rattle.std.proofs.Common.{List, sym, ◌∙◌, ap}
 use Rattle.std.proofs.lemmas.List.{take_all}
 use Rattle.script_text.specs.events.declared.told.Event.{Event}
-use Rattle.kernel_read_laws.specs.Reads.{place_of_call}
+use Rattle.run_laws.specs.kernel_reads.Reads.{place_of_call}
 use Rattle.kernel_read.specs.Places.{calls_in, cell, noted, reads}
 use Rattle.kernel_read.proofs.Cells.{journal_more, noted_none}
 use Rattle.kernel_read.proofs.places.note_journal.Goals as goal

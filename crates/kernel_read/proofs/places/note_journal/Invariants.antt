@@ -1,7 +1,7 @@
 -- the places that the events so far name are noted
 use Rattle.std.proofs.Common.{◌≡◌, ℕ, take}
 use Rattle.kernel_read.specs.Places.{HasShape, calls_in, cell, noted, reads}
-use Rattle.kernel_read_laws.specs.Reads.{place_of_call}
+use Rattle.run_laws.specs.kernel_reads.Reads.{place_of_call}
 use Rattle.kernel_read.proofs.places.note_journal.Given as goal
 
 abbrev pub invariant-loop-event : goal.invariant-loop-event

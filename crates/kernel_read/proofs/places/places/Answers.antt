@@ -3,7 +3,7 @@ use Rattle.std.proofs.lemmas.List.{take_at}
 use Rattle.script_text.specs.steps.templates.declared.entry.Placed.{Placed}
 use Rattle.script_text.specs.events.EndedInode.{EndedInodeValue}
 use Rattle.script_text.specs.events.declared.told.Event.{Event}
-use Rattle.kernel_read_laws.specs.Reads.{place_of_call}
+use Rattle.run_laws.specs.kernel_reads.Reads.{place_of_call}
 use Rattle.kernel_read.specs.Places.{HasShape, calls_in, cell, noted, read_at, reads}
 use Rattle.kernel_read.proofs.Cells.{inode_more}
 use Rattle.kernel_read.proofs.places.places.Goals as goal

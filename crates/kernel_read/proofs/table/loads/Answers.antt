@@ -2,7 +2,7 @@ use Rattle.std.proofs.Common.{List, ℕ, ◌≡◌, ◌++◌, length, ◌∙◌,
 use Rattle.script_text.specs.ScriptValue.{ScriptValue}
 use Rattle.script_text.specs.events.forms.Words.{text_of}
 use Rattle.report_text.specs.Words.{Line}
-use Rattle.kernel_read_laws.specs.model.EndedValue.{EndedValue}
+use Rattle.run_laws.specs.model.EndedValue.{EndedValue}
 use Rattle.kernel_read.specs.Lines.{table_text}
 use Rattle.kernel_read.specs.Places.{calls_in}
 use Rattle.kernel_read.specs.Table.{calls_of, loads_of, task_lines}

@@ -1,7 +1,7 @@
 use Rattle.script_run.proofs.Forms.{script_forms}
 use Rattle.script_run.proofs.laws.shown_runs_are_sound.Goals as goal
 use Rattle.script_scene.specs.Scene.{scene_of}
-use Rattle.shown_laws.proofs.Sound.{sound_there}
+use Rattle.run_laws.proofs.shown.Sound.{sound_there}
 
 pub returns : goal.returns
 returns c = λ s kept for_files run shown.

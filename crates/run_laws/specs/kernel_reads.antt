@@ -1,0 +1,2 @@
+-- What holds of the kernel's own reads in every shown run.
+pub mod Reads

@@ -1,0 +1,3 @@
+-- What holds of every shown run.
+pub mod Places
+pub mod Laws
