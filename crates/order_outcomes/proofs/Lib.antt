@@ -7,4 +7,5 @@ pub mod Moving
 pub mod Telling
 pub mod Schedules
 pub mod Examples
+pub mod alike
 pub use Rattle.order_counts.proofs as about_counts

@@ -4,6 +4,9 @@
 //! its outcome: neither the places of entries nor those of events are in it. [`outcome_of`] tells
 //! the outcome by the state that a run leaves, and [`made_of`] how much the run has made, which
 //! tells whether its last turn has moved its task.
+//!
+//! `specs/alike/` says when two moments of a run are alike, so that orders that lead to them can be
+//! counted as one.
 #![tactic(auto)]
 
 mod calls;

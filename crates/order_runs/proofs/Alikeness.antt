@@ -1,8 +1,8 @@
 -- Alike moments, whatever moment the orders begin from.
 use Rattle.std.proofs.Common.{inl, refl}
-use Rattle.order_alike.proofs.Following.{following}
-use Rattle.order_alike.proofs.Inodes.{inode_laws}
-use Rattle.order_alike.specs.Alike.{IsAlike}
+use Rattle.order_outcomes.proofs.alike.Following.{following}
+use Rattle.order_outcomes.proofs.alike.Inodes.{inode_laws}
+use Rattle.order_outcomes.specs.alike.Alike.{IsAlike}
 use Rattle.order_outcomes.specs.Orders.{moved, outcome_at}
 use Rattle.order_outcomes.specs.counts.Layers.{AreAlike}
 use Rattle.order_outcomes.specs.reports.model.Rounds.{all_tasks}

@@ -4,7 +4,7 @@ use Rattle.std.proofs.lemmas.Bool.{true≢false}
 use Rattle.std.proofs.lemmas.List.{map-append, take_more}
 use Rattle.std.proofs.lemmas.List.Elements.{All-cons, All-head, All-nil, All-tail}
 use Rattle.std.proofs.lemmas.Option.{none-some}
-use Rattle.order_alike.specs.Alike.{IsAlike}
+use Rattle.order_outcomes.specs.alike.Alike.{IsAlike}
 use Rattle.order_outcomes.proofs.about_counts.Adding.{advance-more}
 use Rattle.order_outcomes.proofs.about_counts.Spread.{first_in, later_in}
 use Rattle.order_outcomes.proofs.about_counts.Whole.{begins, ends, step}

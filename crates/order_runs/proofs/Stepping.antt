@@ -6,7 +6,7 @@ use Rattle.std.proofs.lemmas.Option.{get_or_from_slice_get, same_Some, slice_get
 use Rattle.order_outcomes.proofs.Moving.{led_fits, start_fits}
 use Rattle.order_outcomes.proofs.about_counts.Adding.{joined_is, met, pushed, spreads-more}
 use Rattle.order_outcomes.proofs.about_counts.Spread.{in_cases, in_none, led-more}
-use Rattle.order_alike.specs.Alike.{IsAlike}
+use Rattle.order_outcomes.specs.alike.Alike.{IsAlike}
 use Rattle.order_outcomes.specs.Orders.{moment_after, moved}
 use Rattle.order_outcomes.specs.counts.Layers.{AddsIf, IsAdded, LeadAlike, Spreads, first_of, joined, root, with_turn}
 use Rattle.order_outcomes.specs.counts.Orders.{rests}

@@ -5,7 +5,7 @@ use Rattle.std.proofs.lemmas.Bool.{true≢false}
 use Rattle.std.proofs.lemmas.List.{drop_more, length-map, map-append}
 use Rattle.std.proofs.lemmas.List.Elements.{All-head, All-nil, All-tail, Contains-append_right}
 use Rattle.std.proofs.lemmas.Option.{get_or_from_slice_get, none-some, same_Some}
-use Rattle.order_alike.specs.Alike.{IsAlike}
+use Rattle.order_outcomes.specs.alike.Alike.{IsAlike}
 use Rattle.order_outcomes.proofs.about_counts.Spread.{first_in, in_cases, in_none, on, passed}
 use Rattle.order_outcomes.specs.Orders.{moment_after, moved, outcome_at}
 use Rattle.order_outcomes.specs.counts.Layers.{AreAlike, IsWay, root, ways}

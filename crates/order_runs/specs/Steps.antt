@@ -1,6 +1,6 @@
 -- What is kept of a way, and what a step of counting makes of the ways of one length.
 use Rattle.std.specs.Prelude.{◌≡◌, ℕ, ◌<◌, not, Bool, true, false, All, List, [], ◌∷◌, ◌++◌, ◌⊎◌, map, Option, Some, None, slice_get, slice_set}
-use Rattle.order_alike.specs.Alike.{IsAlike}
+use Rattle.order_outcomes.specs.alike.Alike.{IsAlike}
 use Rattle.order_outcomes.specs.Orders.{moment_after, moved, outcome_at}
 use Rattle.order_outcomes.specs.counts.Layers.{Advances, AllAdvance, IsJoined, Spreads, StandsAt, joined, root, with_turn}
 use Rattle.order_outcomes.specs.counts.Orders.{comes_before, led, rests}

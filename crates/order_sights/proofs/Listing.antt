@@ -11,8 +11,8 @@ use Rattle.std.proofs.lemmas.Option.{none-some, same_Some}
 use Rattle.inode_events.specs.NewestFirst.{newest_first}
 use Rattle.inode_events.specs.declared.told.Event.{Event}
 use Rattle.inode_events.specs.templates.declared.entry.Entry.{Entry}
-use Rattle.order_alike.specs.Alike.{places_in}
-use Rattle.order_alike.proofs.InodeTold.{listed_places, shown_in}
+use Rattle.order_outcomes.specs.alike.Alike.{places_in}
+use Rattle.order_outcomes.proofs.alike.InodeTold.{listed_places, shown_in}
 use Rattle.order_outcomes.specs.Calls.{is_listed, shows, shows_at}
 use Rattle.order_told.specs.Told.{AreEntriesSame, IsAt, IsThere}
 

@@ -26,9 +26,9 @@ use Rattle.inode_state.specs.declared.state.State.{State as InodeState}
 use Rattle.inode_state.specs.declared.verdicts.KeyedVerdict.{KeyedVerdict}
 use Rattle.journal_laws.proofs.Fresh.{Fresh}
 use Rattle.journal_laws.proofs.FreshSteps.{freshness_lem}
-use Rattle.order_alike.specs.Alike.{AreIn, AreListsAlike, IsAlike, IsAlikeBy, IsIn, IsInodeAlike, IsSound, digests_seen, places_in, unchecked}
-use Rattle.order_alike.proofs.Entries.{lists_alike}
-use Rattle.order_alike.specs.Names.{is_used, position_named}
+use Rattle.order_outcomes.specs.alike.Alike.{AreIn, AreListsAlike, IsAlike, IsAlikeBy, IsIn, IsInodeAlike, IsSound, digests_seen, places_in, unchecked}
+use Rattle.order_outcomes.proofs.alike.Entries.{lists_alike}
+use Rattle.order_outcomes.specs.alike.Names.{is_used, position_named}
 use Rattle.order_outcomes.specs.Orders.{left_at}
 use Rattle.run_model.specs.Ended.{answered, answered_by, how_many, posted, posts_to, waited, waits_for}
 use Rattle.run_model.specs.EndedValue.{EndedValue, inodes_ended}

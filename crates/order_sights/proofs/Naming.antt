@@ -7,7 +7,7 @@ use Rattle.std.proofs.lemmas.List.Elements.{All-head, All-tail}
 use Rattle.call_steps.specs.CallState.{Progress}
 use Rattle.call_steps.specs.declared.held.Handle.{Handle}
 use Rattle.run_model.specs.History.{Position}
-use Rattle.order_alike.specs.Names.{handle_named, has_file, in_handles, in_progress, is_used, position_named, progress_named}
+use Rattle.order_outcomes.specs.alike.Names.{handle_named, has_file, in_handles, in_progress, is_used, position_named, progress_named}
 use Rattle.order_sights.specs.Pairs.{ArePositionsPaired, AreTwo, HandlesPaired, IsHandlePaired, IsPositionPaired, IsProgressPaired, are_apart, are_within, has_pair, is_apart, is_pair, named, same_bool}
 use Rattle.order_sights.specs.declared.pairs.Pair.{Pair}
 

@@ -17,7 +17,7 @@ use Rattle.inode_events.specs.declared.told.Told.{Told}
 use Rattle.inode_events.specs.declared.told.Told.TheVariants as told
 use Rattle.inode_events.specs.labels.declared.verdict.Verdict.{Verdict}
 use Rattle.inode_events.specs.templates.declared.entry.Entry.{Entry}
-use Rattle.order_alike.specs.Alike.{unchecked}
+use Rattle.order_outcomes.specs.alike.Alike.{unchecked}
 use Rattle.order_outcomes.specs.Calls.{is_by, is_listed, is_read, listed_in, verdict_in, verdict_told}
 use Rattle.order_told.specs.Told.{IsCallSame, are_checks_below, is_check_below, is_grant}
 use Rattle.order_told.proofs.Telling.{All-reverse}

@@ -12,7 +12,7 @@ use Rattle.inode_state.specs.Writes.{reaches}
 use Rattle.inode_state.specs.declared.collecting.Collecting.{Collecting}
 use Rattle.inode_state.specs.declared.in_force.InForce.{InForce}
 use Rattle.journal_laws.proofs.Fresh.{CollectionIs, DigestsIs}
-use Rattle.order_alike.specs.Alike.{CollectionSeen, DigestsSeen, HasBegun, HaveBegun, collection_seen, digests_seen}
+use Rattle.order_outcomes.specs.alike.Alike.{CollectionSeen, DigestsSeen, HasBegun, HaveBegun, collection_seen, digests_seen}
 use Rattle.order_sights.specs.States.{AreCollectionsSame, force_seen}
 use Rattle.order_sights.specs.Taken.{taken}
 use Rattle.order_sights.specs.TakenValue.{TakenValue}

@@ -2,7 +2,7 @@
 use Rattle.std.specs.Prelude.{◌≡◌, ℕ, ◌<◌, List, length, Some, slice_get}
 use Rattle.inode_cell.specs.Value.{CellValue}
 use Rattle.inode_events.specs.EndedInode.{EndedInodeValue}
-use Rattle.order_alike.specs.Alike.{AreIn}
+use Rattle.order_outcomes.specs.alike.Alike.{AreIn}
 use Rattle.order_outcomes.specs.Orders.{left_at}
 use Rattle.run_model.specs.EndedValue.{EndedValue}
 use Rattle.run_model.specs.Scene.{Scene}

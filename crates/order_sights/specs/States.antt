@@ -4,7 +4,7 @@ use Rattle.inode_state.specs.Writes.{reaches}
 use Rattle.inode_state.specs.declared.collecting.Collecting.{Collecting}
 use Rattle.inode_state.specs.declared.in_force.InForce.{InForce}
 use Rattle.inode_state.specs.declared.state.State.{State}
-use Rattle.order_alike.specs.Alike.{DigestsSeen}
+use Rattle.order_outcomes.specs.alike.Alike.{DigestsSeen}
 
 -- the digests in force, by the place of the last write
 abbrev pub force_seen : Option ℕ → Option InForce → Option DigestsSeen

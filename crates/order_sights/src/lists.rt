@@ -1,7 +1,7 @@
 // The measurement lists of two moments, in any order.
 
 ghost use Rattle.std.specs.Prelude.{IsTrue};
-ghost use Rattle.order_alike.specs.Alike.{AreIn, IsIn};
+ghost use Rattle.order_outcomes.specs.alike.Alike.{AreIn, IsIn};
 
 use inode_events::templates::Entry;
 use order_told::Same;

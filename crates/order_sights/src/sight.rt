@@ -1,7 +1,7 @@
 //! What is seen of a run between two turns, and when two runs can be met as one.
 
 ghost use Rattle.std.specs.Prelude.{◌≡◌, ◌<◌, length, IfOk, IsTrue};
-ghost use Rattle.order_alike.specs.Alike.{IsAlike};
+ghost use Rattle.order_outcomes.specs.alike.Alike.{IsAlike};
 ghost use Rattle.order_sights.specs.Pairs.{ArePairs};
 ghost use Rattle.order_sights.specs.Sights.{AreCountsSame, AreInodesSame, AreListsSame, IsInodeSame, IsSight};
 ghost use Rattle.run_model.specs.Scene.{Scene};

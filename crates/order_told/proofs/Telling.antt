@@ -5,7 +5,7 @@ use Rattle.std.proofs.lemmas.List.{append-nil, reverse-append}
 use Rattle.std.proofs.lemmas.List.Elements.{All-head, All-nil, All-push, All-tail}
 use Rattle.inode_events.specs.NewestFirst.{newest_first}
 use Rattle.inode_events.specs.declared.told.Event.{Event}
-use Rattle.order_alike.specs.Alike.{places_in, with_place}
+use Rattle.order_outcomes.specs.alike.Alike.{places_in, with_place}
 use Rattle.order_outcomes.specs.Calls.{place_told}
 use Rattle.order_outcomes.proofs.Walking.{past_next, past_none}
 

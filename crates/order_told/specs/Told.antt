@@ -9,7 +9,7 @@ use Rattle.inode_events.specs.declared.told.Event.{Event}
 use Rattle.inode_events.specs.declared.told.Told.{Told}
 use Rattle.inode_events.specs.declared.told.Told.TheVariants as told
 use Rattle.inode_events.specs.templates.declared.entry.Entry.{Entry}
-use Rattle.order_alike.specs.Alike.{places_in}
+use Rattle.order_outcomes.specs.alike.Alike.{places_in}
 use Rattle.order_outcomes.specs.Calls.{is_read, listed_of, verdict_of}
 
 -- a check is of a file with a name below the end

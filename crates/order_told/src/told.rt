@@ -2,7 +2,7 @@
 
 ghost use Rattle.std.specs.Prelude.{◌≡◌, ◌<◌, ◌++◌, length, option_to_list, reverse, slice_get, All, IfOk, IsTrue, OnOk, Some, true};
 ghost use Rattle.inode_events.specs.NewestFirst.{newest_first};
-ghost use Rattle.order_alike.specs.Alike.{places_in};
+ghost use Rattle.order_outcomes.specs.alike.Alike.{places_in};
 ghost use Rattle.order_outcomes.specs.Calls.{is_read, listed_of, verdict_of};
 ghost use Rattle.order_told.specs.Told.{AreEntriesSame, IsAt, IsCallSame, IsThere, are_checks_below, is_check_below, is_grant};
 

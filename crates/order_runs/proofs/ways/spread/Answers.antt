@@ -1,5 +1,5 @@
 use Rattle.std.proofs.Common.{◌≡◌, ℕ, not, length, ap, subst, ◌∙◌, arith}
-use Rattle.order_alike.specs.Alike.{IsAlike}
+use Rattle.order_outcomes.specs.alike.Alike.{IsAlike}
 use Rattle.order_outcomes.specs.Orders.{moved}
 use Rattle.order_outcomes.specs.counts.Layers.{Spreads}
 use Rattle.order_outcomes.specs.counts.Orders.{rests}

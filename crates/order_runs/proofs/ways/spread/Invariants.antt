@@ -1,6 +1,6 @@
 -- the ways on by the tasks so far
 use Rattle.std.proofs.Common.{◌≡◌, not, All, Some}
-use Rattle.order_alike.specs.Alike.{IsAlike}
+use Rattle.order_outcomes.specs.alike.Alike.{IsAlike}
 use Rattle.order_outcomes.specs.Orders.{moved}
 use Rattle.order_outcomes.specs.counts.Layers.{Spreads}
 use Rattle.order_outcomes.specs.counts.Orders.{rests}

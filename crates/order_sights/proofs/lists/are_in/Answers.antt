@@ -3,7 +3,7 @@ use Rattle.std.specs.Prelude.{All}
 use Rattle.std.proofs.lemmas.List.{take_all}
 use Rattle.std.proofs.lemmas.List.Elements.{All-more}
 use Rattle.inode_events.specs.templates.declared.entry.Entry.{Entry}
-use Rattle.order_alike.specs.Alike.{IsIn}
+use Rattle.order_outcomes.specs.alike.Alike.{IsIn}
 use Rattle.order_sights.proofs.Listing.{all_at}
 use Rattle.order_sights.proofs.lists.are_in.Goals as goal
 

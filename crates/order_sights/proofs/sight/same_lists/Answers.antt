@@ -1,7 +1,7 @@
 use Rattle.std.proofs.Common.{◌≡◌, ◌∙◌, List, ap, subst}
 use Rattle.inode_events.specs.templates.declared.entry.Entry.{Entry}
 use Rattle.run_model.specs.EndedValue.{EndedValue}
-use Rattle.order_alike.specs.Alike.{AreIn}
+use Rattle.order_outcomes.specs.alike.Alike.{AreIn}
 use Rattle.order_sights.proofs.sight.same_lists.Goals as goal
 
 pub returns : goal.returns

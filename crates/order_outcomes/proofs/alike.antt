@@ -1,0 +1,27 @@
+-- The lemmas of specs/alike: first of one inode, then of whole moments.
+pub mod InodeRetold
+pub mod InodeLaws
+pub mod InodeFiles
+pub mod InodeState
+pub mod InodeSeen
+pub mod InodeIntegrity
+pub mod InodeMarks
+pub mod InodeTold
+pub mod InodeGrants
+pub mod InodeSaid
+pub mod InodeSteps
+pub mod InodeLists
+pub mod Entries
+pub mod InodePlaces
+pub mod InodeSound
+pub mod Inodes
+pub mod MomentNames
+pub mod MomentSteps
+pub mod MomentPositions
+pub mod MomentAfter
+pub mod MomentTasks
+pub mod MomentAlong
+pub mod MomentEnds
+pub mod Following
+pub mod Reached
+pub mod Examples
