@@ -40,20 +40,14 @@ impl InodeCell {
         Ok(())
     }
 
-    // Whether a writer's close has to write a label: the writer is the only one, and a label is
-    // due.
+    // Whether a writer's close has to write a label, by the label that the file has.
     fn is_label_due_now(&self) -> bool
         ensures { result ≡ ((writers (newest_first self.now.list) == 1) && is_label_due
             self.now.inode (newest_first self.now.list)) }
     {
-        let state = self.kept.state();
-        let marks = state.marks;
-        let is_signed = matches!(
-            read_label(self.label(), self.kept.settings().hash),
-            Label::Signature
-        );
-        let is_changed = marks.new || !marks.versions || state.writes.in_span;
-        state.counts.writers == 1 && (marks.update && !is_signed && is_changed)
+        let hash = self.kept.settings().hash;
+        let is_signed = matches!(read_label(self.label(), hash), Label::Signature);
+        self.kept.state().is_label_due(is_signed)
     }
 
     /// Begins a writer's close. If the writer is the last and a label is due, a collection begins;

@@ -1,7 +1,12 @@
 // The state of an inode, with all its parts.
-ghost use Rattle.std.specs.Prelude.{◌≡◌, ◌+◌, ◌<◌, ◌≤◌, ◌^◌, List, [], ◌∷◌, length, vec_len, vec_capacity};
+ghost use Rattle.std.specs.Prelude.{◌≡◌, ◌==◌, ◌&&◌, ◌+◌, ◌<◌, ◌≤◌, ◌^◌, List, [], ◌∷◌, length, vec_len, vec_capacity};
+ghost use Rattle.inode_events.specs.Files.{writers};
 ghost use Rattle.inode_events.specs.Inode.{Inode as AnyInode};
+ghost use Rattle.inode_events.specs.Integrity.{label};
 ghost use Rattle.inode_events.specs.Legal.{EachFollows};
+ghost use Rattle.inode_events.specs.Marks.{is_label_due};
+ghost use Rattle.inode_events.specs.labels.Labels.{read_label};
+ghost use Rattle.inode_events.specs.labels.Verdicts.{is_signature};
 ghost use Rattle.inode_events.specs.declared.told.Event.{Event as AnyEvent};
 ghost use Rattle.inode_meta.specs.declared.step.Who.{Who as AnyWho};
 ghost use Rattle.inode_state.specs.Collecting.{pieces_taken};
@@ -68,6 +73,18 @@ impl State {
             in_force: None,
             verdicts: Verdicts::new(alloc),
         }
+    }
+
+    /// Whether a writer's close has to write a label: the writer is the only one, and a label is
+    /// due. `is_signed` says whether the present label is a signature, which stays.
+    pub fn is_label_due(&self, is_signed: bool) -> bool
+        ensures { (i : AnyInode) (p : List AnyEvent) → IsState i p self.now
+            → is_signed ≡ is_signature (read_label (label i p) i.settings.hash)
+            → result ≡ ((writers p == 1) && is_label_due i p) }
+    {
+        let marks = self.marks;
+        let is_changed = marks.new || !marks.versions || self.writes.in_span;
+        self.counts.writers == 1 && (marks.update && !is_signed && is_changed)
     }
 
     // Whether the content would count as changed if the last writer closed now.
