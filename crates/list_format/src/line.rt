@@ -43,9 +43,7 @@ fn append_head(e: &Entry, out: &mut Vec<u8>) -> Result<(), OutOfMemory>
 {
     out.extend_from_slice(&pcr_digits(e.pcr))?;
     append_hex(out, b' ', e.sum(Bank::Sha1).as_slice())?;
-    out.extend_from_slice(b" ")?;
-    out.extend_from_slice(e.template.word().as_bytes())?;
-    Ok(())
+    append_name(e.template.word().as_bytes(), out)
 }
 
 // Appends the fields, each after a space.
@@ -87,8 +85,7 @@ pub fn append_named_digest(digest: &Digest, out: &mut Vec<u8>) -> Result<(), Out
         ≡ out.old.items ++ 32 ∷ algo_name digest.now.algo ++ 58 ∷ encode_lower digest.now.bytes) }
     ensures kept { take (vec_len out.old) out.new.items ≡ out.old.items }
 {
-    out.extend_from_slice(b" ")?;
-    out.extend_from_slice(digest.algo().name().as_bytes())?;
+    append_name(digest.algo().name().as_bytes(), out)?;
     append_hex(out, b':', digest.as_slice())
 }
 

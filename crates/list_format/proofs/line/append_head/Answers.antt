@@ -1,12 +1,15 @@
 -- The concatenated parts are the head.
-use Rattle.std.proofs.Common.{[], ◌∷◌, ◌++◌, ap, ◌∙◌, arith}
-use Rattle.std.proofs.lemmas.Result.{err_from_is_err_and}
+use Rattle.std.proofs.Common.{ℕ, [], ◌∷◌, List, ◌++◌, append_assoc, ap, sym, ◌∙◌, arith}
+use Rattle.std.proofs.lemmas.Result.{err_from_is_err_and, on_ok_weaker}
+use Rattle.std.specs.Vec.{vec_len}
 use Rattle.hex.specs.Hex.{encode_lower}
 use Rattle.inode_meta.specs.Words.{template_word}
+use Rattle.inode_meta.specs.declared.measurement.Bank.TheVariants.{Sha1}
 use Rattle.ima_templates.specs.declared.entry.Entry.{Entry}
+use Rattle.ima_templates.specs.Digests.{template_digest}
 use Rattle.list_format.specs.Line.{pcr_text}
-use Rattle.list_lemmas.proofs.Kept.{appended_both, kept_append, kept_same}
-use Rattle.list_format.proofs.AppendLemmas.{appended-3, appended-4}
+use Rattle.list_lemmas.proofs.Kept.{appended_both, kept_append, kept_before, kept_same}
+use Rattle.list_format.proofs.AppendLemmas.{appended-3}
 use Rattle.list_format.proofs.line.append_head.Goals as goal
 
 pub returns-clause-ok : goal.returns-clause-ok
@@ -15,14 +18,22 @@ returns-clause-ok c =
     let sum = c.as_slice.ensures.bytes ∙ ap (λ d. d.bytes) c.sum.ensures.digest in
     let word = c.as_bytes.ensures.value ∙ c.word.ensures
     ∙ ap (λ (e : Entry). template_word e.template) c.e.view_is in
-    appended-4 _ _ _ _ _ _ _ _ _ c.in_ok-extend_from_slice.ensures.items
-    c.in_ok-append_hex.ensures.ok c.in_ok-extend_from_slice-2.ensures.items
-    c.in_ok-extend_from_slice-3.ensures.items
-    ∙ (λ i. c.args.out.now.items
-    ++ (((pcr i ++ 32 ∷ encode_lower (sum i)) ++ 32 ∷ []) ++ word i))
+    on_ok_weaker c.append_name.result
+    (λ named. appended-3 _ _ _ _ _ _ _ c.in_ok-extend_from_slice.ensures.items
+    c.in_ok-append_hex.ensures.ok named
+    ∙ (λ i. c.args.out.now.items ++ ((pcr i ++ 32 ∷ encode_lower (sum i)) ++ 32 ∷ word i))
+    ∙ ap (λ (l : List ℕ). c.args.out.now.items ++ (pcr_text c.args.e.now.pcr ++ 32 ∷ l))
+    (sym (append_assoc (encode_lower (template_digest c.args.e.now Sha1).bytes) (32 ∷ [])
+    (template_word c.args.e.now.template))))
+    c.append_name.ensures.ok
 
 pub returns-clause-kept : goal.returns-clause-kept
-returns-clause-kept c = kept_append _ _ _ _ (omega arith) (returns-clause-ok c)
+returns-clause-kept c =
+    kept_before c.args.out.now.items c.append_hex.new.out.items _ _ (vec_len c.args.out.now)
+    (vec_len c.append_hex.new.out) (omega arith)
+    (appended_both c.args.out.now.items _ _ c.pcr_digits.result _
+    c.in_ok-extend_from_slice.ensures.items c.in_ok-append_hex.ensures.ok)
+    c.append_name.ensures.kept
 
 pub returns-in_err-extend_from_slice : goal.returns-in_err-extend_from_slice
 returns-in_err-extend_from_slice c =
@@ -40,29 +51,4 @@ returns-in_err-append_hex c =
       ok = tt;
       kept = kept_append _ _ _ _ (omega arith)
           (c.in_err-append_hex.ensures.err ∙ c.in_ok-extend_from_slice.ensures.items);
-    }
-
-pub returns-in_err-extend_from_slice-2 : goal.returns-in_err-extend_from_slice-2
-returns-in_err-extend_from_slice-2 c =
-    let p = err_from_is_err_and c.from_residual-in_err-extend_from_slice-2.result
-    c.from_residual-in_err-extend_from_slice-2.ensures.1 in
-    rw (p.1) record {
-      ok = tt;
-      kept = kept_append _ _ _ _ (omega arith)
-          (c.in_err-extend_from_slice-2.ensures.items
-          ∙ appended_both c.args.out.now.items _ _ c.pcr_digits.result _
-          c.in_ok-extend_from_slice.ensures.items
-          c.in_ok-append_hex.ensures.ok);
-    }
-
-pub returns-in_err-extend_from_slice-3 : goal.returns-in_err-extend_from_slice-3
-returns-in_err-extend_from_slice-3 c =
-    let p = err_from_is_err_and c.from_residual-in_err-extend_from_slice-3.result
-    c.from_residual-in_err-extend_from_slice-3.ensures.1 in
-    rw (p.1) record {
-      ok = tt;
-      kept = kept_append _ _ _ _ (omega arith)
-          (c.in_err-extend_from_slice-3.ensures.items
-          ∙ appended-3 _ _ _ _ _ _ _ c.in_ok-extend_from_slice.ensures.items
-          c.in_ok-append_hex.ensures.ok c.in_ok-extend_from_slice-2.ensures.items);
     }
