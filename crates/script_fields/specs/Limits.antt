@@ -1,8 +1,10 @@
 -- The limits on the parts of a script.
-use Rattle.std.specs.Prelude.{ℕ, nat_lt, Option, Some, None, if◌then◌else◌}
+use Rattle.std.specs.Prelude.{ℕ, Bool, ◌||◌, not, nat_lt, List, Option, Some, None, if◌then◌else◌}
+use Rattle.std.specs.Str.{bytes_eq}
 use Rattle.inode_pages.specs.Content as content
 use Rattle.policy_rules.specs.Limits as policy
 use Rattle.xattr_store.specs.Attrs as attrs
+use Rattle.xattr_store.specs.Names.{evm_name, ima_name}
 
 -- the file systems
 abbrev pub most_supers : ℕ
@@ -55,6 +57,10 @@ most_value = attrs.most_value
 -- the bytes of the HMAC's key
 abbrev pub most_key : ℕ
 most_key = 128
+
+-- the label and the HMAC count neither among a file's attributes nor in the sum
+abbrev pub is_counted : List ℕ → Bool
+is_counted name = not (bytes_eq name ima_name || bytes_eq name evm_name)
 
 -- the sum, if it is within its limit
 abbrev pub within_sum : ℕ → Option ℕ

@@ -19,18 +19,22 @@ pub fn cred_in(fields: &[&[u8]]) -> Option<Cred>
 fn cred_of(uid: &[u8], euid: &[u8], gid: &[u8], egid: &[u8], more: &[&[u8]]) -> Option<Cred>
     ensures { result ≡ cred_of uid.now euid.now gid.now egid.now (map (λ w. w.now) more.now) }
 {
-    let uid = id_after(b"uid=", uid)?;
-    let euid = id_after(b"euid=", euid)?;
-    let gid = id_after(b"gid=", gid)?;
-    let egid = id_after(b"egid=", egid)?;
-    let admin = admin_of(more)?;
-    Some(Cred {
-        uid,
-        euid,
-        gid,
-        egid,
-        admin,
-    })
+    if let Some(uid) = id_after(b"uid=", uid)
+        && let Some(euid) = id_after(b"euid=", euid)
+        && let Some(gid) = id_after(b"gid=", gid)
+        && let Some(egid) = id_after(b"egid=", egid)
+        && let Some(admin) = admin_of(more)
+    {
+        Some(Cred {
+            uid,
+            euid,
+            gid,
+            egid,
+            admin,
+        })
+    } else {
+        None
+    }
 }
 
 fn admin_of(more: &[&[u8]]) -> Option<bool>

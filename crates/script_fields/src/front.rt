@@ -60,22 +60,26 @@ fn front_of<'a>(
     ensures { option_map front_view result ≡ front_of path.now fs.now ino.now generation.now uid.now
         gid.now mode.now }
 {
-    let path = path_of(path)?;
-    let fs = numeral_after(fs)?;
-    let ino = ino_after(ino)?;
-    let generation = id_after(b"gen=", generation)?;
-    let uid = id_after(b"uid=", uid)?;
-    let gid = id_after(b"gid=", gid)?;
-    let mode = mode_after(mode)?;
-    Some(Front {
-        path,
-        fs,
-        ino,
-        generation,
-        uid,
-        gid,
-        mode,
-    })
+    if let Some(path) = path_of(path)
+        && let Some(fs) = numeral_after(fs)
+        && let Some(ino) = ino_after(ino)
+        && let Some(generation) = id_after(b"gen=", generation)
+        && let Some(uid) = id_after(b"uid=", uid)
+        && let Some(gid) = id_after(b"gid=", gid)
+        && let Some(mode) = mode_after(mode)
+    {
+        Some(Front {
+            path,
+            fs,
+            ino,
+            generation,
+            uid,
+            gid,
+            mode,
+        })
+    } else {
+        None
+    }
 }
 
 fn path_of(text: &[u8]) -> Option<&[u8]>
@@ -112,6 +116,8 @@ pub fn content_after(alloc: Global, text: &[u8]) -> Result<Content, LineErr>
     ensures { LineGives result
         (ok_or (after_key_by content_of (codes "content=") text.now) cause.BadField) }
 {
-    let value = text.strip_prefix(b"content=").ok_or(LineCause::BadField)?;
-    content_of(alloc, value)
+    match text.strip_prefix(b"content=") {
+        Some(value) => content_of(alloc, value),
+        None => Err(LineErr::Refused(LineCause::BadField)),
+    }
 }

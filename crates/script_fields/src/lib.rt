@@ -17,6 +17,6 @@ pub use cred::cred_in;
 pub use endings::{threads_of, turns_of};
 pub use front::{Front, content_after, file_in, front_in};
 pub use settings::{digest_in, format_of, is_added_name, mode_named};
-pub use sum::sum_of;
+pub use sum::{is_counted, sum_of};
 pub use supers::super_in;
 pub use words::{id_after, is_filled, name_of, one, two};

@@ -9,7 +9,7 @@ use hash_algos::{Algo, Digest};
 use inode_meta::Mode;
 use script_words::{LineCause, LineErr, value_of};
 use std::alloc::Global;
-use text_forms::is_word;
+use text_forms::{is_word, look_up};
 use xattr_store::EVM_NAME;
 
 // The bytes of the longest digest.
@@ -32,21 +32,19 @@ fn digest_sized(algo: Algo, bytes: &[u8]) -> Result<Digest, LineErr>
     }
 }
 
+// The appraisal modes by their words.
+const MODES: [(&[u8], Mode); 4] = [
+    (b"enforce", Mode::Enforce),
+    (b"log", Mode::Log),
+    (b"fix", Mode::Fix),
+    (b"off", Mode::Off),
+];
+
 /// The appraisal mode by its word.
 pub fn mode_named(word: &[u8]) -> Option<Mode>
     ensures { result ≡ mode_named word.now }
 {
-    if word == b"enforce".as_slice() {
-        Some(Mode::Enforce)
-    } else if word == b"log".as_slice() {
-        Some(Mode::Log)
-    } else if word == b"fix".as_slice() {
-        Some(Mode::Fix)
-    } else if word == b"off".as_slice() {
-        Some(Mode::Off)
-    } else {
-        None
-    }
+    look_up(&MODES, word)
 }
 
 /// Whether EVM can protect an attribute of this name besides the five.

@@ -35,17 +35,21 @@ fn super_of(
     ensures { LineGives result
         (ok_or (super_of magic.now uuid.now name.now versions.now) cause.BadField) }
 {
-    let magic = magic_after(magic).ok_or(LineCause::BadField)?;
-    let uuid = uuid_after(uuid).ok_or(LineCause::BadField)?;
-    let name = name_after(name).ok_or(LineCause::BadField)?;
-    let versions = versions_of(versions).ok_or(LineCause::BadField)?;
-    let name = Bytes::from_slice(alloc, name)?;
-    Ok(Super {
-        magic,
-        uuid,
-        name,
-        versions,
-    })
+    if let Some(magic) = magic_after(magic)
+        && let Some(uuid) = uuid_after(uuid)
+        && let Some(name) = name_after(name)
+        && let Some(versions) = versions_of(versions)
+    {
+        let name = Bytes::from_slice(alloc, name)?;
+        Ok(Super {
+            magic,
+            uuid,
+            name,
+            versions,
+        })
+    } else {
+        Err(LineErr::Refused(LineCause::BadField))
+    }
 }
 
 fn magic_after(text: &[u8]) -> Option<u64>

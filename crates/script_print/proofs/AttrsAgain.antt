@@ -12,10 +12,10 @@ use Rattle.text_forms.specs.Words.{is_word}
 use Rattle.xattr_store.specs.Attrs.{IsAttrs, IsBefore, Pair, byte_order, put, value}
 use Rattle.xattr_store.proofs.Search.{eq_as_ordered}
 use Rattle.script_text.specs.Draft.{Draft, change_last}
-use Rattle.script_text.specs.Files.{attrs_put, has_attr, has_attr_in, is_counted, with_attr}
+use Rattle.script_text.specs.Files.{attrs_put, has_attr, has_attr_in, with_attr}
 use Rattle.script_text.specs.Forms.{AreAttrs, are_bytes, attr_bytes, attr_count, is_attr}
 use Rattle.script_text.specs.Grammar.{with_head}
-use Rattle.script_text.specs.Limits.{most_attrs, most_bytes, most_value}
+use Rattle.script_text.specs.Limits.{is_counted, most_attrs, most_bytes, most_value}
 use Rattle.script_text.specs.Settings.{one_if}
 use Rattle.script_text.specs.declared.blocks.FileBlock.{FileBlock}
 use Rattle.script_text.specs.declared.head.Head.TheVariants as head

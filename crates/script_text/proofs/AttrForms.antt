@@ -24,9 +24,8 @@ use Rattle.xattr_store.specs.Attrs.{Pair, byte_order, put, without}
 use Rattle.xattr_store.proofs.OrderKept.{attrs-put, attrs-without}
 use Rattle.xattr_store.proofs.Search.{eq_as_ordered}
 use Rattle.xattr_store.specs.Names.{ima_name}
-use Rattle.script_text.specs.Files.{is_counted}
 use Rattle.script_text.specs.Forms.{AreAttrs, are_bytes, attr_count, is_attr}
-use Rattle.script_fields.specs.Limits.{most_attrs}
+use Rattle.script_fields.specs.Limits.{is_counted, most_attrs}
 use Rattle.script_text.specs.Settings.{one_if}
 use Rattle.script_text.proofs.HashBytes.{hmac_bytes, label_bytes}
 use Rattle.call_lines.proofs.Holding.{both_true, left_true, right_true}

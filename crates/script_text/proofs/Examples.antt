@@ -4,7 +4,7 @@ use Rattle.call_steps.specs.declared.ending.Ending.TheVariants as ending
 use Rattle.script_words.specs.declared.fault.LineCause.TheVariants as cause
 use Rattle.script_words.specs.Read.{fault_at}
 use Rattle.script_text.specs.Draft.{plain_script}
-use Rattle.script_text.specs.Files.{is_counted}
+use Rattle.script_fields.specs.Limits.{is_counted}
 use Rattle.script_text.specs.Forms.{are_apart, is_among, is_ending}
 use Rattle.script_text.specs.Grammar.{add, placed, script_of, with_head}
 use Rattle.script_text.specs.ListGrammar as list

@@ -17,10 +17,10 @@ use Rattle.script_words.specs.declared.fault.LineCause.TheVariants as cause
 use Rattle.script_words.specs.Forms.{after_key_by, field, place_among}
 use Rattle.script_words.specs.Value.{value_of}
 use Rattle.script_text.specs.Draft.{Draft, change_last}
-use Rattle.script_text.specs.Files.{attr_put, attrs_put, block_of, counted_length, filed, has_attr, is_counted, on_super, sealed, setup_of, with_absent, with_attr, with_block, with_file, with_front, with_pair, with_seal}
+use Rattle.script_text.specs.Files.{attr_put, attrs_put, block_of, counted_length, filed, has_attr, on_super, sealed, setup_of, with_absent, with_attr, with_block, with_file, with_front, with_pair, with_seal}
 use Rattle.script_fields.specs.FileFields.{Front, content_of, file_in, front_in, two}
 use Rattle.script_text.specs.Forms.{AreFiles, AreTasks, IsFile, IsOnSome, are_bytes, attr_bytes, attr_count, file_bytes, has_place, is_attr, path_of_block}
-use Rattle.script_fields.specs.Limits.{most_attrs, most_bytes, most_content, most_files, most_value}
+use Rattle.script_fields.specs.Limits.{is_counted, most_attrs, most_bytes, most_content, most_files, most_value}
 use Rattle.call_lines.specs.Places.{place_in}
 use Rattle.script_text.specs.Settings.{Made, one_if}
 use Rattle.script_fields.specs.SuperFields.{name_of}

@@ -1,6 +1,5 @@
 -- The blocks of files.
-use Rattle.std.specs.Prelude.{ℕ, ◌+◌, Bool, true, false, ◌&&◌, ◌||◌, not, nat_lt, List, [], ◌∷◌, ◌++◌, length, codes, Option, Some, None, is_some, slice_get, Ok, Err, ok_or, if◌then◌else◌}
-use Rattle.std.specs.Str.{bytes_eq}
+use Rattle.std.specs.Prelude.{ℕ, ◌+◌, Bool, true, false, ◌&&◌, not, nat_lt, List, [], ◌∷◌, ◌++◌, length, codes, Option, Some, None, is_some, slice_get, Ok, Err, ok_or, if◌then◌else◌}
 use Rattle.evm_verify.specs.Setup.{Setup}
 use Rattle.evm_verify.specs.Status.{renewed}
 use Rattle.hash_algos.specs.Digest.{digest_of}
@@ -9,12 +8,12 @@ use Rattle.label_values.specs.Labels.{label_of}
 use Rattle.policy_text.specs.rules.declared.access.Super.{Super}
 use Rattle.text_forms.specs.Lines.{◌>>=◌}
 use Rattle.xattr_store.specs.Attrs.{put, value}
-use Rattle.xattr_store.specs.Names.{evm_name, ima_name}
+use Rattle.xattr_store.specs.Names.{ima_name}
 use Rattle.script_words.specs.declared.fault.LineCause.TheVariants as cause
 use Rattle.script_words.specs.Forms.{after_key_by, field, place_among}
 use Rattle.script_words.specs.Value.{value_of}
 use Rattle.script_text.specs.Draft.{Draft, change_last, last_of}
-use Rattle.script_fields.specs.Limits.{most_attrs, most_bytes, most_files, most_value}
+use Rattle.script_fields.specs.Limits.{is_counted, most_attrs, most_bytes, most_files, most_value}
 use Rattle.call_lines.specs.Places.{place_in}
 use Rattle.script_text.specs.ScriptValue.{ScriptValue}
 use Rattle.script_text.specs.Settings.{Made, one_if}
@@ -80,10 +79,6 @@ unfoldable pub with_absent : List (List ℕ) → Draft → Made
 with_absent words d = field (front_in words) λ front. with_front front false [] d
 
 -- ---- attributes
-
--- the label and the HMAC count neither among a file's attributes nor in the sum
-abbrev pub is_counted : List ℕ → Bool
-is_counted name = not (bytes_eq name ima_name || bytes_eq name evm_name)
 
 abbrev pub attrs_put : List ℕ → List ℕ → FileBlock → FileBlock
 attrs_put name bytes b =

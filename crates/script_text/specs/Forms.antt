@@ -19,8 +19,8 @@ use Rattle.text_forms.specs.Words.{is_word}
 use Rattle.xattr_store.specs.Attrs.{IsAttrs, Pair}
 pub use Rattle.call_lines.specs.Calls.{is_line_call}
 pub use Rattle.call_lines.specs.Form.{are_bytes, is_byte, is_id, is_mode}
-use Rattle.script_text.specs.Files.{counted_length, is_counted}
-use Rattle.script_fields.specs.Limits.{most_added, most_attrs, most_bytes, most_calls, most_content, most_files, most_key, most_rules, most_supers, most_tasks, most_threads, most_turns}
+use Rattle.script_text.specs.Files.{counted_length}
+use Rattle.script_fields.specs.Limits.{is_counted, most_added, most_attrs, most_bytes, most_calls, most_content, most_files, most_key, most_rules, most_supers, most_tasks, most_threads, most_turns}
 use Rattle.call_lines.specs.Places.{place_in}
 use Rattle.script_text.specs.ScriptValue.{ScriptValue}
 use Rattle.script_text.specs.Settings.{boot_algo, one_if}

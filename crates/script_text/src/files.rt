@@ -6,7 +6,7 @@ ghost use Rattle.label_values.specs.Labels.{label_of};
 ghost use Rattle.xattr_store.specs.Names.{ima_name};
 ghost use Rattle.script_words.specs.Gives.{LineMakes};
 ghost use Rattle.script_text.specs.Draft.{change_last, last_of};
-ghost use Rattle.script_text.specs.Files.{attrs_put, block_of, counted_length, has_attr, is_counted, sealed, setup_of, with_absent, with_attr, with_block, with_file, with_front, with_pair, with_seal};
+ghost use Rattle.script_text.specs.Files.{attrs_put, block_of, counted_length, has_attr, sealed, setup_of, with_absent, with_attr, with_block, with_file, with_front, with_pair, with_seal};
 ghost use Rattle.script_fields.specs.FrontView.{front_view};
 ghost use Rattle.script_fields.specs.Limits.{most_value};
 
@@ -21,11 +21,11 @@ use inode_meta::Meta;
 use inode_pages::Content;
 use label_values::{MAX_LABEL, write_label};
 use policy_text::Super;
-use script_fields::{Front, content_after, file_in, front_in, name_of, sum_of, two};
+use script_fields::{Front, content_after, file_in, front_in, is_counted, name_of, sum_of, two};
 use script_words::{LineCause, LineErr, place_among, value_of};
 use std::alloc::{AllocError as OutOfMemory, Global};
 use std::mem;
-use xattr_store::{Attrs, Bytes, EVM_NAME, IMA_NAME, MAX_VALUE};
+use xattr_store::{Attrs, Bytes, IMA_NAME, MAX_VALUE};
 
 // The most files of a script, and the most attributes of a file.
 const FILES: usize = 256;
@@ -239,13 +239,6 @@ fn counted_length(name: &[u8], value: &[u8]) -> usize
     ensures { result ≡ counted_length name.now value.now }
 {
     if is_counted(name) { value.len() } else { 0 }
-}
-
-// The label and the HMAC count neither among a file's attributes nor in the sum.
-fn is_counted(name: &[u8]) -> bool
-    ensures { result ≡ is_counted name.now }
-{
-    !(name == IMA_NAME || name == EVM_NAME)
 }
 
 // The file with the attribute set.
