@@ -98,10 +98,14 @@ impl Draft {
     pub fn with_attr(&mut self, alloc: Global, fields: &[&[u8]]) -> Result<(), LineErr>
         ensures { LineMakes result (with_attr (map (λ w. w.now) fields.now) self.old) self.new }
     {
-        let (name, value) = two(fields).ok_or(LineCause::BadField)?;
-        let name = name_of(name).ok_or(LineCause::BadField)?;
-        let value = value_of(alloc, value, 0, MAX_VALUE)?;
-        self.with_pair(name, value.as_slice())
+        if let Some((name, value)) = two(fields)
+            && let Some(name) = name_of(name)
+        {
+            let value = value_of(alloc, value, 0, MAX_VALUE)?;
+            self.with_pair(name, value.as_slice())
+        } else {
+            Err(LineErr::Refused(LineCause::BadField))
+        }
     }
 
     fn with_pair(&mut self, name: &[u8], value: &[u8]) -> Result<(), LineErr>

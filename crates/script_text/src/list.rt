@@ -148,13 +148,15 @@ impl ListDraft {
     fn with_file(&mut self, alloc: Global, fields: &[&[u8]]) -> Result<(), LineErr>
         ensures { LineMakes result (with_file (map (λ w. w.now) fields.now) self.old) self.new }
     {
-        let (path, value) = two(fields).ok_or(LineCause::BadField)?;
-        if !is_path(path) {
-            return Err(LineErr::Refused(LineCause::BadField));
+        if let Some((path, value)) = two(fields)
+            && is_path(path)
+        {
+            let content = value_of(alloc, value, 0, CONTENT)?;
+            let path = Bytes::from_slice(alloc, path)?;
+            self.listed(path, content)
+        } else {
+            Err(LineErr::Refused(LineCause::BadField))
         }
-        let content = value_of(alloc, value, 0, CONTENT)?;
-        let path = Bytes::from_slice(alloc, path)?;
-        self.listed(path, content)
     }
 
     fn listed(&mut self, path: Bytes, content: Bytes) -> Result<(), LineErr>
