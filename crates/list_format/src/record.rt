@@ -34,8 +34,7 @@ fn append_record(e: &Entry, out: &mut Vec<u8>) -> Result<(), OutOfMemory>
     append_number(out, e.pcr as usize)?;
     out.extend_from_slice(e.sum(Bank::Sha1).as_slice())?;
     append_sized(out, e.template.word().as_bytes())?;
-    append_data(e, out)?;
-    Ok(())
+    append_data(e, out)
 }
 
 // Appends the part of the record that shows the fields.
@@ -47,8 +46,7 @@ fn append_data(e: &Entry, out: &mut Vec<u8>) -> Result<(), OutOfMemory>
         Template::Ima => append_ima(e, out),
         _ => {
             append_number(out, e.data_length()?)?;
-            e.absorb_data(out)?;
-            Ok(())
+            e.absorb_data(out)
         }
     }
 }

@@ -1,7 +1,7 @@
 -- The concatenated parts are the record.
 use Rattle.std.proofs.Common.{◌≡◌, ℕ, List, ◌++◌, ap, ◌∙◌, arith}
 use Rattle.std.specs.Vec.{vec_len}
-use Rattle.std.proofs.lemmas.Result.{err_from_is_err_and}
+use Rattle.std.proofs.lemmas.Result.{err_from_is_err_and, on_ok_weaker}
 use Rattle.byteorder.specs.Endian.{little_bytes}
 use Rattle.inode_meta.specs.Words.{template_word}
 use Rattle.inode_meta.specs.declared.measurement.Bank.TheVariants.{Sha1}
@@ -24,17 +24,24 @@ returns-clause-ok c =
     ∙ ap (λ (x : Entry). template_word x.template) c.e.view_is in
     let parts : List ℕ → List ℕ → ℕ → List ℕ = λ sum word pcr.
     ((little_bytes 4 pcr ++ sum) ++ sized word) ++ shown_data c.args.e.now.template c.args.e.now in
-    appended-4 _ _ _ _ _ _ _ _ _ c.in_ok-append_number.ensures.ok
+    on_ok_weaker c.append_data.result
+    (λ shown. appended-4 _ _ _ _ _ _ _ _ _ c.in_ok-append_number.ensures.ok
     c.in_ok-extend_from_slice.ensures.items
-    c.in_ok-append_sized.ensures.ok c.in_ok-append_data.ensures.ok
+    c.in_ok-append_sized.ensures.ok shown
     ∙ ap (λ l. c.args.out.now.items ++ l)
     (ap (λ s. parts s c.as_bytes.result.now c.e.inside.pcr) sum_is
     ∙ ap (λ w. parts (template_digest c.args.e.now Sha1).bytes w c.e.inside.pcr) word_is
     ∙ ap (λ n. parts (template_digest c.args.e.now Sha1).bytes
-    (template_word c.args.e.now.template) n) pcr_is)
+    (template_word c.args.e.now.template) n) pcr_is))
+    c.append_data.ensures.ok
 
 pub returns-clause-kept : goal.returns-clause-kept
-returns-clause-kept c = kept_append _ _ _ _ (omega arith) (returns-clause-ok c)
+returns-clause-kept c =
+    kept_before c.args.out.now.items c.append_sized.new.out.items _ _ (vec_len c.args.out.now)
+    (vec_len c.append_sized.new.out) (omega arith)
+    (appended-3 _ _ _ _ _ _ _ c.in_ok-append_number.ensures.ok
+    c.in_ok-extend_from_slice.ensures.items c.in_ok-append_sized.ensures.ok)
+    c.append_data.ensures.kept
 
 pub returns-in_err-append_number : goal.returns-in_err-append_number
 returns-in_err-append_number c =
@@ -66,17 +73,4 @@ returns-in_err-append_sized c =
           c.in_ok-append_number.ensures.ok
           c.in_ok-extend_from_slice.ensures.items)
           c.in_err-append_sized.ensures.kept;
-    }
-
-pub returns-in_err-append_data : goal.returns-in_err-append_data
-returns-in_err-append_data c =
-    let p = err_from_is_err_and c.from_residual-in_err-append_data.result
-    c.from_residual-in_err-append_data.ensures.1 in
-    rw (p.1) record {
-      ok = tt;
-      kept = kept_before c.args.out.now.items c.append_sized.new.out.items _ _
-          (vec_len c.args.out.now) (vec_len c.append_sized.new.out) (omega arith)
-          (appended-3 _ _ _ _ _ _ _ c.in_ok-append_number.ensures.ok
-          c.in_ok-extend_from_slice.ensures.items c.in_ok-append_sized.ensures.ok)
-          c.in_err-append_data.ensures.kept;
     }
