@@ -142,8 +142,7 @@ fn run_both<N: Name, G: Gate + Sync, R: Threads + Wait + Sync>(
             × OnOk result (AreOver N.consts high size back.entry.now back.exit.now) }
     { run_halves(rt, world, gate, size, high, back) };
     let (one, other) = join_mut(rt, &mut first, &mut second);
-    one?;
-    other
+    one.and(other)
 }
 
 /// Cuts the tasks into at most `n` parts, none longer than so many parts need, each of which runs in

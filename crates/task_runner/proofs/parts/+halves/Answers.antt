@@ -1,6 +1,6 @@
 -- Both halves have few enough parts, and the parts of the halves are those of all tasks.
 use Rattle.std.proofs.Common.{◌-◌, ◌/◌, ◌++◌, List, length, sym, subst, arith}
-use Rattle.std.proofs.lemmas.Result.{err_from_is_err_and, on_ok_weaker}
+use Rattle.std.proofs.lemmas.Result.{on_ok_weaker}
 use Rattle.std.specs.Prelude.{All}
 use Rattle.task_core.specs.worlds.Tasks.{IsTask, Tasked}
 use Rattle.task_runner.proofs.Going.{gone_both}
@@ -54,8 +54,3 @@ run_halves-returns-clause-parts g t c =
     (over_both consts low (c.args.count - low) c.args.count size cut.result.0.now
     cut.result.1.now c.run_both.new.front c.run_both.new.back (omega arith) both.0 both.1))
     c.run_both.ensures.parts
-
-pub run_both-returns-in_err-one-clause-parts : goal.run_both-returns-in_err-one-clause-parts
-run_both-returns-in_err-one-clause-parts g t c =
-    let p = err_from_is_err_and c.from_residual.result c.from_residual.ensures.1 in
-    rw (p.1) tt
