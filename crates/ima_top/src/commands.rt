@@ -64,7 +64,7 @@ pub fn answer_input<G: Gate + Sync, R: Threads + Wait + Sync>(
         Command::Policy => policy::answer(alloc, &input)?,
         Command::Label => label::answer(alloc, &input)?,
         Command::Carry => carry::answer(alloc, &input)?,
-        Command::Gen(number) => gen_::answer(rt, alloc, number, gate)?,
+        Command::Gen(number) => gen_::summarize(rt, alloc, number, gate)?,
     };
     let output = whole(alloc, output)?;
     Ok(Answer {

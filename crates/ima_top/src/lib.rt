@@ -12,7 +12,6 @@
 mod commands;
 mod not_done;
 mod status;
-mod summary;
 mod top;
 
 pub use command_line::Command;

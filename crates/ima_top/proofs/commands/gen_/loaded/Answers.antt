@@ -1,7 +1,7 @@
 use Rattle.std.proofs.Common.{◌≡◌, ◌∙◌, Ok, ap, length, sym}
 use Rattle.script_text.specs.Grammar.{script_of}
 use Rattle.ima_top.proofs.Loading.{is_loaded}
-use Rattle.ima_top.proofs.summary.loaded.Goals as goal
+use Rattle.ima_top.proofs.commands.gen_.loaded.Goals as goal
 
 pub returns-in-Ok : goal.returns-in-Ok
 returns-in-Ok c =

@@ -1,7 +1,9 @@
+use Rattle.ima_top.specs.commands.Gen.{IsGenOutput}
 use Rattle.ima_top.proofs.Through.{goes_through}
-use Rattle.ima_top.proofs.summary.summarize.Goals as goal
+use Rattle.ima_top.proofs.commands.gen_.summarize.Goals as goal
 
 pub returns : goal.returns
+unfolding IsGenOutput
 returns g c =
     let has = c.in_ok-ended.ensures in record {
       script = c.in_ok-script.script;
