@@ -1,19 +1,19 @@
 // The command `audit`: the report of the run of a script, and then the trail of what the lines of
 // `audit` and `hash` asked for in that run.
-ghost use Rattle.std.specs.Prelude.{◌≤◌, length, IsOkAnd};
-ghost use Rattle.script_text.specs.Grammar.{script_of};
+ghost use Rattle.std.specs.Prelude.{◌≤◌, length, IfOk};
 ghost use Rattle.ima_top.specs.Answered.{Answers};
 ghost use Rattle.ima_top.specs.Limits.{most_input};
 ghost use Rattle.ima_top.specs.commands.Audit.{IsAuditOutput, trail_of};
-ghost use Rattle.ima_top.specs.commands.Ran.{IsLeftBy, IsTextOf, script_refusal};
+ghost use Rattle.ima_top.specs.commands.Ran.{IsLeftBy, IsReportAnd, script_refusal};
 
 use crate::commands::Answer;
-use crate::commands::ran::{ran, report_and, script};
+use crate::commands::ran::{ran, report_and};
 use crate::not_done::NotDone;
 use audit_trail::trail;
 use ima_io::Gate;
 use run_model::Ended;
-use std::alloc::Global;
+use script_text::Script;
+use std::alloc::{AllocError as OutOfMemory, Global};
 use std::sync::Wait;
 use std::thread::Threads;
 
@@ -28,20 +28,18 @@ pub fn answer<G: Gate + Sync, R: Threads + Wait + Sync>(
     ensures { Answers result (script_refusal input.now)
         (λ answer. IsAuditOutput input.now answer.stuck answer.output) }
 {
-    let ended = ran(rt, alloc, input, gate)?;
-    let trail = trail_of(alloc, input, &ended)?;
-    let answer = report_and(alloc, ended, trail)?;
+    let (script, ended) = ran(rt, alloc, input, gate)?;
+    let answer = reported(alloc, script, ended)?;
     Ok(answer)
 }
 
-// The trail of a run of the script that left this state.
-fn trail_of(alloc: Global, input: &[u8], ended: &Ended) -> Result<Vec<u8>, NotDone>
-    requires long { length input.now ≤ most_input }
-    requires left { IsOkAnd (script_of input.now) (λ s. IsLeftBy s ended.now) }
-    ensures { Answers result (script_refusal input.now) (λ trail. IsOkAnd (script_of input.now)
-        (λ s. IsTextOf trail_of s ended.now trail.items)) }
+// The report of a run of the script that left this state, and the trail of that run.
+fn reported(alloc: Global, script: Script, ended: Ended) -> Result<Answer, OutOfMemory>
+    requires { IsLeftBy script ended }
+    ensures { IfOk result (λ answer. IsReportAnd trail_of script answer.stuck answer.output) }
 {
-    let script = script(alloc, input)?;
-    let text = trail(alloc, &script, ended)?;
-    Ok(text)
+    let trail = trail(alloc, &script, &ended)?;
+    drop(script);
+    let answer = report_and(alloc, ended, trail)?;
+    Ok(answer)
 }

@@ -1,19 +1,19 @@
 // The command `loads`: the report of the run of a script, and then the table of what the kernel
 // itself has read in that run.
-ghost use Rattle.std.specs.Prelude.{◌≤◌, length, IsOkAnd};
-ghost use Rattle.script_text.specs.Grammar.{script_of};
+ghost use Rattle.std.specs.Prelude.{◌≤◌, length, IfOk};
 ghost use Rattle.ima_top.specs.Answered.{Answers};
 ghost use Rattle.ima_top.specs.Limits.{most_input};
-ghost use Rattle.ima_top.specs.commands.Loads.{IsLoadsOutput, table_of};
-ghost use Rattle.ima_top.specs.commands.Ran.{IsTextOf, script_refusal};
+ghost use Rattle.ima_top.specs.commands.Loads.{IsLoadsOutput, IsReportAndTable};
+ghost use Rattle.ima_top.specs.commands.Ran.{IsLeftBy, script_refusal};
 
 use crate::commands::Answer;
-use crate::commands::ran::{ran, report_and, script};
+use crate::commands::ran::{ran, report_and};
 use crate::not_done::NotDone;
 use ima_io::Gate;
 use kernel_read::loads;
 use run_model::Ended;
-use std::alloc::Global;
+use script_text::Script;
+use std::alloc::{AllocError as OutOfMemory, Global};
 use std::sync::Wait;
 use std::thread::Threads;
 
@@ -29,19 +29,18 @@ pub fn answer<G: Gate + Sync, R: Threads + Wait + Sync>(
     ensures { Answers result (script_refusal input.now)
         (λ answer. IsLoadsOutput input.now answer.stuck answer.output) }
 {
-    let ended = ran(rt, alloc, input, gate)?;
-    let table = table(alloc, input, &ended)?;
-    let answer = report_and(alloc, ended, table)?;
+    let (script, ended) = ran(rt, alloc, input, gate)?;
+    let answer = reported(alloc, script, ended)?;
     Ok(answer)
 }
 
-// The table of a run of the script that left this state.
-fn table(alloc: Global, input: &[u8], ended: &Ended) -> Result<Vec<u8>, NotDone>
-    requires { length input.now ≤ most_input }
-    ensures { Answers result (script_refusal input.now) (λ table. IsOkAnd (script_of input.now)
-        (λ s. IsTextOf table_of s ended.now table.items)) }
+// The report of a run of the script that left this state, and the table of that run.
+fn reported(alloc: Global, script: Script, ended: Ended) -> Result<Answer, OutOfMemory>
+    requires { IsLeftBy script ended }
+    ensures { IfOk result (λ answer. IsReportAndTable script answer.stuck answer.output) }
 {
-    let script = script(alloc, input)?;
-    let table = loads(alloc, &script, ended)?;
-    Ok(table)
+    let table = loads(alloc, &script, &ended)?;
+    drop(script);
+    let answer = report_and(alloc, ended, table)?;
+    Ok(answer)
 }

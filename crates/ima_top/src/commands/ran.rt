@@ -1,5 +1,6 @@
-// What `audit` and `loads` have in common: the run of a script, and its report with a further text.
-ghost use Rattle.std.specs.Prelude.{◌≡◌, ◌≤◌, ◌++◌, length, IfOk, IsOkAnd};
+// What the commands of scripts have in common: the script of the input, its run, and the report of
+// the run, which `audit` and `loads` let a further text follow.
+ghost use Rattle.std.specs.Prelude.{◌≡◌, ◌≤◌, ◌++◌, length, IfOk};
 ghost use Rattle.report_text.specs.Report.{report_of};
 ghost use Rattle.script_text.specs.Grammar.{script_of};
 ghost use Rattle.ima_top.specs.Answered.{Answers};
@@ -31,22 +32,33 @@ pub fn script(alloc: Global, input: &[u8]) -> Result<Script, NotDone>
     }
 }
 
-/// The state that the run of the script leaves. A run consumes its script, so a text that needs
-/// both is made of a script that is parsed once more.
+/// The script of the input, and the state that its run leaves. A run consumes its script, so the
+/// input is parsed once more.
 pub fn ran<G: Gate + Sync, R: Threads + Wait + Sync>(
     rt: &R,
     alloc: Global,
     input: &[u8],
     gate: &G,
-) -> Result<Ended, NotDone>
+) -> Result<(Script, Ended), NotDone>
     requires { length input.now ≤ most_input }
     ensures { Answers result (script_refusal input.now)
-        (λ ended. IsOkAnd (script_of input.now) (λ s. IsLeftBy s ended)) }
+        (λ r. (script_of input.now ≡ Ok r.0) × IsLeftBy r.0 r.1) }
 {
+    let consumed = script(alloc, input)?;
+    consumed.keeps();
+    let ended = run(rt, alloc, consumed, gate)?;
     let script = script(alloc, input)?;
-    script.keeps();
-    let ended = run(rt, alloc, script, gate)?;
-    Ok(ended)
+    Ok((script, ended))
+}
+
+/// The report of a run that left this state.
+pub fn report(alloc: Global, ended: Ended) -> Result<Answer, OutOfMemory>
+    ensures stuck { IfOk result (λ answer. answer.stuck ≡ ended.stuck) }
+    ensures output { IfOk result (λ answer. answer.output ≡ report_of ended) }
+{
+    let stuck = ended.stuck;
+    let output = report_in_pieces(alloc, ended)?;
+    Ok(Answer { output, stuck })
 }
 
 /// The report of a run that left this state, and then the text.
@@ -54,8 +66,7 @@ pub fn report_and(alloc: Global, ended: Ended, text: Vec<u8>) -> Result<Answer, 
     ensures stuck { IfOk result (λ answer. answer.stuck ≡ ended.stuck) }
     ensures output { IfOk result (λ answer. answer.output ≡ report_of ended ++ text.items) }
 {
-    let stuck = ended.stuck;
-    let mut output = report_in_pieces(alloc, ended)?;
-    output.push(text)?;
-    Ok(Answer { output, stuck })
+    let mut answer = report(alloc, ended)?;
+    answer.output.push(text)?;
+    Ok(answer)
 }

@@ -1,23 +1,20 @@
 // The command `run`: the report of the run of a script.
-ghost use Rattle.std.specs.Prelude.{◌≤◌, length, IfOk};
+ghost use Rattle.std.specs.Prelude.{◌≤◌, length};
 ghost use Rattle.ima_top.specs.Answered.{Answers};
 ghost use Rattle.ima_top.specs.Limits.{most_input};
-ghost use Rattle.ima_top.specs.commands.Run.{IsReport, IsRunOutput, run_refusal};
+ghost use Rattle.ima_top.specs.commands.Run.{IsRunOutput, run_refusal};
 
 use crate::commands::Answer;
-use crate::commands::bad_line::bad_line;
+use crate::commands::ran::{report, script};
 use crate::not_done::NotDone;
 use ima_io::Gate;
-use report_text::report_in_pieces;
 use script_run::run;
-use script_text::{Script, ScriptErr, parse};
-use std::alloc::{AllocError as OutOfMemory, Global};
+use std::alloc::Global;
 use std::sync::Wait;
 use std::thread::Threads;
 
 /// The report of the script's run, or the line that names the script's first fault. The input is
 /// dropped once it is parsed.
-#[tactic(auto, unfolding(crate::specs::commands::Run::run_refusal, crate::specs::commands::Run::IsRunOutput))]
 pub fn answer<G: Gate + Sync, R: Threads + Wait + Sync>(
     rt: &R,
     alloc: Global,
@@ -28,27 +25,9 @@ pub fn answer<G: Gate + Sync, R: Threads + Wait + Sync>(
     ensures { Answers result (run_refusal input.items)
         (λ answer. IsRunOutput input.items answer.stuck answer.output) }
 {
-    match parse(alloc, &input) {
-        Ok(script) => {
-            drop(input);
-            Ok(reported(rt, alloc, script, gate)?)
-        }
-        Err(ScriptErr::Refused(fault)) => Err(NotDone::Refused(bad_line(alloc, fault)?)),
-        Err(ScriptErr::OutOfMemory) => Err(NotDone::OutOfMemory),
-    }
-}
-
-// Runs the script and returns its report, and whether the run is stuck.
-fn reported<G: Gate + Sync, R: Threads + Wait + Sync>(
-    rt: &R,
-    alloc: Global,
-    script: Script,
-    gate: &G,
-) -> Result<Answer, OutOfMemory>
-    ensures { IfOk result (λ answer. IsReport script answer.stuck answer.output) }
-{
+    let script = script(alloc, &input)?;
+    drop(input);
     let ended = run(rt, alloc, script, gate)?;
-    let stuck = ended.stuck;
-    let output = report_in_pieces(alloc, ended)?;
-    Ok(Answer { output, stuck })
+    let answer = report(alloc, ended)?;
+    Ok(answer)
 }

@@ -1,14 +1,14 @@
 use Rattle.script_text.specs.Grammar.{script_of}
 use Rattle.ima_top.specs.commands.Audit.{IsAuditOutput, trail_of}
-use Rattle.ima_top.proofs.Ran.{report_joined}
+use Rattle.ima_top.specs.commands.Ran.{IsReportAnd}
+use Rattle.ima_top.proofs.Ran.{of_read}
 use Rattle.ima_top.proofs.commands.audit.answer.Goals as goal
 
 pub returns : goal.returns
 unfolding IsAuditOutput
 returns g c = (
-  c.in_ok-ended.ensures.0,
-  report_joined trail_of (script_of c.args.input.now) c.in_ok-ended.ended
-      c.in_ok-trail.trail.items c.in_ok-answer.answer.stuck c.in_ok-answer.answer.output
-      c.in_ok-ended.ensures.1 c.in_ok-trail.ensures.1 c.in_ok-answer.ensures.stuck
-      c.in_ok-answer.ensures.output,
+  c.in_ok-script.ensures.0,
+  of_read (λ s. IsReportAnd trail_of s c.in_ok-answer.answer.stuck c.in_ok-answer.answer.output)
+      (script_of c.args.input.now) c.in_ok-script.script c.in_ok-script.ensures.1.0
+      c.in_ok-answer.ensures,
 )
