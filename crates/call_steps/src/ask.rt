@@ -1,5 +1,4 @@
-use inode_meta::Slot;
-use policy_rules::Func;
+use inode_events::{Func, Slot};
 
 /// The next step of a call: the event to make, or none. The event's other fields come from the
 /// call, from the file that it uses, from the task's credentials and from the rules.

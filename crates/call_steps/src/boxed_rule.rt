@@ -1,6 +1,6 @@
 ghost use Rattle.std.specs.Prelude.{◌≡◌, IfOk};
 
-use policy_rules::Rule;
+use inode_events::Rule;
 use std::alloc::{AllocError as OutOfMemory, Global};
 use std::marker::Model;
 

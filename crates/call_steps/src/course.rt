@@ -3,8 +3,7 @@ ghost use Rattle.call_steps.specs.Steps.{check, course_of, how_of, purpose_of, p
 
 use crate::ask::Ask;
 use crate::call::Call;
-use inode_events::How;
-use policy_rules::Purpose;
+use inode_events::{How, Purpose};
 
 /// The course of a call's steps. A call that makes a check goes on by the check's answer.
 #[derive(Clone, Copy)]

@@ -11,10 +11,7 @@ use crate::due::{Due, Next};
 use crate::first::close;
 use crate::reply::Reply;
 use inode_events::labels::{Cause, Verdict};
-use inode_events::{Grant, Told};
-use inode_meta::Mode;
-use inode_pages::MOST_BYTES;
-use policy_rules::Action;
+use inode_events::{Action, Grant, MOST_BYTES, Mode, Told};
 
 /// The effect of a step on its call, given the step's outcome, and for a check also its action.
 pub fn next_by(

@@ -10,9 +10,7 @@ use crate::first::first;
 use crate::held::Hand;
 use crate::next::next_by;
 use crate::reply::Reply;
-use inode_events::Told;
-use inode_meta::Mode;
-use policy_rules::Action;
+use inode_events::{Action, Mode, Told};
 
 /// A call in progress. It is of no further use once the call is answered.
 #[derive(Clone, Copy)]

@@ -1,10 +1,8 @@
 ghost use Rattle.std.specs.Prelude.{◌≡◌};
 ghost use Rattle.call_steps.specs.Steps.{reply_of};
 
-use hash_algos::Sha256Digest;
-use inode_events::Told;
 use inode_events::labels::Cause;
-use inode_meta::EvmStatus;
+use inode_events::{EvmStatus, Sha256Digest, Told};
 
 /// The reply to a call.
 #[derive(Clone, Copy, PartialEq, Eq)]
