@@ -8,8 +8,8 @@ Each script of examples/ has its report beside it (NAME.report), and each other 
 comment `# refused (CAUSE): LINE` says that `policy` refuses LINE, and why. All of this is compared
 with what the program prints.
 
-The gate compares it too. crates/worked_runs sees only its own folder, so the family
-data/examples.cases repeats each example with its output, status and note, and its stdout names
+The gate compares it too. crates/worked_cases sees only its own folder, so the family
+data/runs/examples.cases repeats each example with its output, status and note, and its stdout names
 them; that these copies are the same is compared here. After an example was added or changed,
 `bench/examples.py write` writes the stored outputs, the cases and the names; look at what git says
 has changed.
@@ -21,7 +21,7 @@ import os, re, subprocess, sys
 
 TOP = os.path.dirname(os.path.dirname(os.path.abspath(__file__)))
 EXAMPLES = os.path.join(TOP, 'examples')
-WORKED = os.path.join(TOP, 'crates', 'worked_runs')
+WORKED = os.path.join(TOP, 'crates', 'worked_cases')
 WRITE = sys.argv[1:2] == ['write']
 BUILT = os.path.join(TOP, 'crates', 'imakern', 'out', 'imakern')
 PROGRAM = (sys.argv[2 if WRITE else 1:] or [BUILT])[0]
@@ -88,7 +88,7 @@ def main():
     names = sorted(name for name in os.listdir(EXAMPLES)
                    if name.rsplit('.', 1)[-1] in COMMANDS and name not in RUNS_DIFFER)
     cases = [each for name in names for each in cases_of(name)]
-    keep(os.path.join(WORKED, 'data', 'examples.cases'), ''.join(cases))
+    keep(os.path.join(WORKED, 'data', 'runs', 'examples.cases'), ''.join(cases))
     lines = ''.join('examples: %s\n' % each[len('>>> '):each.index('\n')] for each in cases)
     stdout = os.path.join(WORKED, 'stdout')
     keep(stdout, re.sub(r'(?m)(^examples: .*\n)+', lambda _: lines, read(stdout), count=1))

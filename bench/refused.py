@@ -14,7 +14,7 @@ from concurrent.futures import ThreadPoolExecutor
 
 BENCH = os.path.dirname(os.path.abspath(__file__))
 TOP = os.path.dirname(BENCH)
-DATA = os.path.join(TOP, 'crates', 'worked_runs', 'data')
+DATA = os.path.join(TOP, 'crates', 'worked_cases', 'data', 'runs')
 NO_MEMORY = (7, b'', b'out of memory\n')
 CASES = [
     ('measuring', 'a read of a measured file'),

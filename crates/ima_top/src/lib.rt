@@ -15,5 +15,6 @@ mod status;
 mod top;
 
 pub use command_line::Command;
+pub use script_run::{Live, Name, Task, Turn, World, started};
 pub use status::{DONE, OUT_OF_MEMORY, READ_FAULT, REFUSED, STUCK, TOO_LONG, USAGE, WRITE_FAULT};
 pub use top::{MOST_INPUT, serve};

@@ -34,7 +34,7 @@ use Rattle.task_runner.specs.worlds.World.{WorldValue}
 use Rattle.task_runner.specs.worlds.WorldRuns.{SameRun, moment_in, scene_in}
 use Rattle.task_runner.specs.ends.Settled.{is_over}
 use Rattle.script_start.specs.Started.{HasStarted}
-use Rattle.script_scene.specs.Scene.{IsForFiles, scene_of}
+use Rattle.script_start.specs.scenes.Scene.{IsForFiles, scene_of}
 use Rattle.script_run.specs.Run.{AreRulesKept, AreWithin, HasRun, LeadsTo, Promised}
 use Rattle.script_start.proofs.Fits.{at_most, below}
 use Rattle.script_run.proofs.Forms.{script_forms}

@@ -19,8 +19,8 @@ use Rattle.script_text.specs.Settings.{boot_algo}
 use Rattle.script_text.specs.declared.blocks.FileBlock.{FileBlock}
 use Rattle.script_text.proofs.Holding.{left_true, right_true}
 use Rattle.policy_rules.specs.forms.Words.{is_visible}
-use Rattle.script_scene.specs.Scene.{IsForFiles, boot_by, scene_of, script_file_of}
-use Rattle.script_scene.proofs.Paths.{measured_path}
+use Rattle.script_start.specs.scenes.Scene.{IsForFiles, boot_by, scene_of, script_file_of}
+use Rattle.script_start.proofs.about_scenes.Paths.{measured_path}
 use Rattle.run_laws.specs.shown.Places.{HasForms}
 
 -- the paths of a script's files can be shown by each template

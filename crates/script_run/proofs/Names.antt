@@ -14,7 +14,7 @@ use Rattle.script_text.specs.ScriptValue.{ScriptValue}
 use Rattle.script_text.specs.declared.blocks.FileBlock.{FileBlock}
 use Rattle.script_text.specs.declared.blocks.TaskBlock.{TaskBlock}
 use Rattle.script_text.proofs.Holding.{left_true, right_true}
-use Rattle.script_scene.specs.Scene.{IsForFiles, program_of, scene_of, script_file_of}
+use Rattle.script_start.specs.scenes.Scene.{IsForFiles, program_of, scene_of, script_file_of}
 use Rattle.policy_rules.specs.forms.Tokens.{is_filled}
 use Rattle.policy_rules.specs.forms.Words.{is_clean, is_visible, is_word}
 use Rattle.ima_templates.specs.xattrs.Attrs.{Pair}

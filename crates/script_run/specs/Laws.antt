@@ -5,7 +5,7 @@ use Rattle.report_text.specs.Report.{report_of}
 use Rattle.run_model.specs.EndedValue.{ended_of}
 use Rattle.run_model.specs.Served.{Run}
 use Rattle.run_model.specs.Shown.{IsShown}
-use Rattle.script_scene.specs.Scene.{IsForFiles, scene_of}
+use Rattle.script_start.specs.scenes.Scene.{IsForFiles, scene_of}
 use Rattle.script_text.specs.Forms.{IsScript}
 use Rattle.script_text.specs.ScriptValue.{ScriptValue}
 use Rattle.run_laws.specs.shown.Laws.{IsSound}

@@ -17,7 +17,7 @@ use Rattle.call_steps.specs.declared.ending.Ending.TheVariants as ending
 use Rattle.policy_rules.specs.RuleValue.{IsRule}
 use Rattle.report_laws.specs.Law.{IsSameRun}
 use Rattle.report_text.specs.Report.{report_of}
-use Rattle.script_scene.specs.Scene.{IsForFiles, scene_of}
+use Rattle.script_start.specs.scenes.Scene.{IsForFiles, scene_of}
 use Rattle.script_text.specs.ScriptValue.{ScriptValue}
 use Rattle.script_text.specs.declared.blocks.TaskBlock.{TaskBlock}
 use Rattle.task_runner.specs.Passes.{HasRunOnThreads}

@@ -1,7 +1,8 @@
-//! The worked cases: what `unit_tests`, `worked_orders` and `worked_views` try.
+//! The worked cases: what `unit_tests`, `worked_orders`, `worked_views` and `worked_runs` try.
 //!
-//! Inputs and stored answers are in `data/orders` and `data/views`. A line is printed for each case,
-//! and the status is 1 if one differs. It is one program, since each takes minutes to compile.
+//! Inputs and stored answers are in `data/orders`, `data/views` and `data/runs`. A line is printed
+//! for each case, and the status is 1 if one differs. It is one program, since each takes minutes
+//! to compile.
 #![tactic(auto)]
 
 use std::io;
@@ -11,6 +12,7 @@ fn main(rt: HostRuntime) -> io::Result<()> {
     let mut all = unit_tests::hold(&rt)?;
     all &= worked_orders::hold(&rt)?;
     all &= worked_views::hold(&rt)?;
+    all &= worked_runs::hold(&rt, &rt)?;
     if all {
         Ok(())
     } else {

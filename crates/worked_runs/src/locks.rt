@@ -4,7 +4,7 @@ ghost use Rattle.std.specs.Thread.{IsSync};
 ghost use Rattle.ima_top.specs.worlds.Tasks.{IsTask};
 
 use crate::gates::sees;
-use script_run::started;
+use ima_top::{Live, Name, Task, Turn, World, started};
 use script_text::{ScriptErr, parse};
 use std::alloc::Global;
 use std::marker::Brand;
@@ -12,7 +12,6 @@ use std::sync::Wait;
 use std::sync::atomic::{AtomicBool, Ordering};
 use std::thread;
 use std::thread::{Threads, join};
-use task_core::{Live, Name, Task, Turn, World};
 
 // Two tasks, each of which opens the file of its own number.
 const OPENS: &str = "imakern 1\n\

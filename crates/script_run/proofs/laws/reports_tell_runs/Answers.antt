@@ -2,7 +2,7 @@
 use Rattle.report_laws.proofs.Runs.{report_determines}
 use Rattle.script_run.proofs.Names.{script_names}
 use Rattle.script_run.proofs.laws.reports_tell_runs.Goals as goal
-use Rattle.script_scene.specs.Scene.{scene_of}
+use Rattle.script_start.specs.scenes.Scene.{scene_of}
 
 pub returns : goal.returns
 returns c = λ for_files a b first second same.

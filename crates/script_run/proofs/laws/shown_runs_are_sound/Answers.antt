@@ -1,6 +1,6 @@
 use Rattle.script_run.proofs.Forms.{script_forms}
 use Rattle.script_run.proofs.laws.shown_runs_are_sound.Goals as goal
-use Rattle.script_scene.specs.Scene.{scene_of}
+use Rattle.script_start.specs.scenes.Scene.{scene_of}
 use Rattle.run_laws.proofs.shown.Sound.{sound_there}
 
 pub returns : goal.returns

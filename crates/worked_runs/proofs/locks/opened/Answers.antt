@@ -1,5 +1,5 @@
 -- The tasks of a script are tasks of its world.
-use Rattle.task_core.proofs.about_closes.Gets.{all_by_get}
+use Rattle.ima_top.proofs.about_runners.about_closes.Gets.{all_by_get}
 use Rattle.ima_top.specs.worlds.Tasks.{IsTask}
 use Rattle.worked_runs.proofs.locks.opened.Goals as goal
 

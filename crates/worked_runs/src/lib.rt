@@ -1,9 +1,10 @@
-//! Worked runs: the commands on sources and sinks in memory, with the inputs of `data/`.
+//! Worked runs: the commands on sources and sinks in memory, with the inputs of
+//! `worked_cases/data/runs`.
 //!
-//! Each file of `data/` is a family of cases: an input, and what the command has to answer. What a
-//! case must write comes from outside: from a second program that follows `docs/RULES.md` and
-//! `docs/FORMATS.md`, with the digests of Python's hashlib. The causes of refused lines, of which
-//! `settings`, `files`, `tasks`, `causes`, `words` and `over_limits` are full, were read off
+//! Each file of that folder is a family of cases: an input, and what the command has to answer.
+//! What a case must write comes from outside: from a second program that follows `docs/RULES.md`
+//! and `docs/FORMATS.md`, with the digests of Python's hashlib. The causes of refused lines, of
+//! which `settings`, `files`, `tasks`, `causes`, `words` and `over_limits` are full, were read off
 //! `docs/FORMATS.md` by hand. Two families have other sources. The cases of `kernels` were run on
 //! Debian's Linux kernels under qemu, with the versions and boot words that the first line of each
 //! script names: they have the kernel's measurement list, the registers that follow from it, and
@@ -20,8 +21,7 @@
 //! that sees which steps pass it, and one at which two tasks or callers wait for each other.
 //! `faults` cuts the input of the first case short, fails its reads and writes, and makes it too
 //! long; `callers` has 64 callers measure the same buffers on 16 threads; `locks` makes steps on
-//! one file while another is held. A line is printed for each case, and the status is 1 if one
-//! differs.
+//! one file while another is held.
 #![tactic(auto)]
 
 mod answers;
@@ -38,7 +38,6 @@ use crate::cases::Case;
 use crate::gates::CaseGate;
 use crate::spread::spread;
 use std::alloc::{AllocError as OutOfMemory, Global};
-use std::io::{Error, ErrorKind};
 use std::sync::Wait;
 use std::thread::Threads;
 use std::{fs, io, str};
@@ -78,31 +77,24 @@ static FAMILIES: [(&str, u32); 29] = [
     ("gates", 1),
 ];
 
-fn main(rt: HostRuntime) -> io::Result<()> {
+/// Prints a line for each case, and returns whether all hold. `rt` starts the threads, and `files`
+/// reads the cases.
+pub fn hold<R: Print + Threads + Wait + Sync>(rt: &R, files: &HostRuntime) -> io::Result<bool> {
     let mut all = true;
     for (family, times) in &FAMILIES {
-        let text = text_of(&rt, family)?;
-        all &= family_holds(&rt, rt.alloc(), family, *times, text.as_str())?;
+        let text = text_of(files, family)?;
+        all &= family_holds(rt, files.alloc(), family, *times, text.as_str())?;
     }
-    let text = text_of(&rt, "measuring")?;
-    all &= others_hold(&rt, rt.alloc(), &first_of(text.as_str()))?;
-    ended(all)
-}
-
-// The end of the program, if all holds or not.
-fn ended(all: bool) -> io::Result<()> {
-    if all {
-        Ok(())
-    } else {
-        Err(Error::from(ErrorKind::Other))
-    }
+    let text = text_of(files, "measuring")?;
+    all &= others_hold(rt, files.alloc(), &first_of(text.as_str()))?;
+    Ok(all)
 }
 
 // The text of the family's file, with what it repeats.
-fn text_of(rt: &HostRuntime, family: &str) -> io::Result<String> {
-    let name = format!(in rt.alloc(); "{family}.cases")?;
-    let text = fs::read_to_string(rt, name.as_str())?;
-    Ok(spread(rt.alloc(), text.as_str())?)
+fn text_of(files: &HostRuntime, family: &str) -> io::Result<String> {
+    let name = format!(in files.alloc(); "runs/{family}.cases")?;
+    let text = fs::read_to_string(files, name.as_str())?;
+    Ok(spread(files.alloc(), text.as_str())?)
 }
 
 // Runs each case of the family `times` times, and returns whether all hold.
