@@ -1,6 +1,6 @@
 use call_steps::Reply;
 use call_steps::events::EndedInode;
-use ima_templates::Entry;
+use call_steps::events::templates::Entry;
 use inode_meta::Template;
 use measure_book::registers::Banks;
 use policy_cell::RuleEntry;
