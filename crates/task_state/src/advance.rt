@@ -9,9 +9,9 @@ ghost use Rattle.task_state.specs.Value.{progress_in};
 
 use crate::handles::{name_ended, name_made, remove};
 use crate::progress::Progress;
-use inode_events::Told;
 use inode_meta::Mode;
 use rule_match::policy::Action;
+use run_model::steps::events::Told;
 use run_model::steps::{Ask, Call, Course, Handle, Name, Next, Reply, next_by};
 
 /// The answer to a call, with its effect on the task's names.

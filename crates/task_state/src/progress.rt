@@ -5,8 +5,8 @@ ghost use Rattle.run_model.specs.steps.CallState.{begun, file_of, how_held, inod
 ghost use Rattle.task_state.specs.Value.{progress_in};
 
 use crate::handles::hand_of;
-use inode_events::How;
 use inode_meta::Mode;
+use run_model::steps::events::How;
 use run_model::steps::{Call, Course, Due, Handle, Held, Plan};
 
 /// The progress of a call between two steps.

@@ -6,8 +6,8 @@ ghost use Rattle.task_state.specs.Value.{progress_in};
 ghost use Rattle.task_state.specs.Steps.{deed_in, step_in};
 
 use crate::progress::Progress;
-use inode_events::{BoxedBytes, BoxedValue, Change, Deed, How};
 use rule_match::policy::{Func, Rule};
+use run_model::steps::events::{BoxedBytes, BoxedValue, Change, Deed, How};
 use run_model::steps::{Ask, Call};
 
 /// An event on an inode, before it has happened. Bytes are borrowed from the call.
