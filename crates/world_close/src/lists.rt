@@ -67,11 +67,15 @@ impl PassesByList {
             book,
             rules,
         } = one;
-        self.rows.push(Row::new(inodes))?;
-        self.sems.push(sems)?;
-        self.book.push(book)?;
-        self.rules.push(rules)?;
-        Ok(())
+        if let Ok(()) = self.rows.push(Row::new(inodes))
+            && let Ok(()) = self.sems.push(sems)
+            && let Ok(()) = self.book.push(book)
+            && let Ok(()) = self.rules.push(rules)
+        {
+            Ok(())
+        } else {
+            Err(OutOfMemory)
+        }
     }
 }
 

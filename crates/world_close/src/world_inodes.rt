@@ -45,10 +45,14 @@ impl Closed {
         ensures book { OnOk result (self.new.book ≡ self.old.book ++ listed ∷ []) }
         ensures rules { OnOk result (self.new.rules ≡ self.old.rules ++ pass ∷ []) }
     {
-        self.inodes.push(inode)?;
-        self.book.push(listed)?;
-        self.rules.push(pass)?;
-        Ok(())
+        if let Ok(()) = self.inodes.push(inode)
+            && let Ok(()) = self.book.push(listed)
+            && let Ok(()) = self.rules.push(pass)
+        {
+            Ok(())
+        } else {
+            Err(OutOfMemory)
+        }
     }
 
     fn reverse(&mut self)
