@@ -10,9 +10,9 @@ use Rattle.script_text.specs.Heads.{is_over}
 use Rattle.script_text.specs.ScriptValue.{ScriptValue}
 use Rattle.script_text.specs.Tasks.{ended, with_rounds}
 use Rattle.script_text.specs.declared.head.Head.TheVariants as head
-use Rattle.script_print.specs.Lines.{lines_text}
-use Rattle.script_print.proofs.Many.{above}
-use Rattle.script_print.proofs.Steps.{text_read}
+use Rattle.script_spelling.specs.Lines.{lines_text}
+use Rattle.script_spelling.proofs.Many.{above}
+use Rattle.script_spelling.proofs.Steps.{text_read}
 use Rattle.load_gen.specs.Accepted.{IsAccepted, IsLoad}
 use Rattle.load_gen.specs.Script.{files, rules_text, script_text, settings_text, tasks}
 use Rattle.load_gen.proofs.FilesRead.{HasFiles, files_read, no_files}

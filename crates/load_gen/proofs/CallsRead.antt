@@ -26,9 +26,9 @@ use Rattle.script_text.specs.call_table.declared.table.CallWord.TheVariants as w
 use Rattle.script_text.specs.declared.head.Head.TheVariants as head
 use Rattle.script_text.specs.declared.blocks.TaskBlock.{TaskBlock}
 use Rattle.script_text.proofs.Lasts.{all_changed, length_changed}
-use Rattle.script_print.specs.Lines.{Line, begins_line, is_plain, line_text}
-use Rattle.script_print.proofs.Lines.{text_after}
-use Rattle.script_print.proofs.Words.{id_back, id_plain, path_plain}
+use Rattle.script_spelling.specs.Lines.{Line, begins_line, is_plain, line_text}
+use Rattle.script_spelling.proofs.Lines.{text_after}
+use Rattle.script_spelling.proofs.Words.{id_back, id_plain, path_plain}
 use Rattle.load_gen.specs.Accepted.{never_waits, waits}
 use Rattle.load_gen.specs.Draws.{drawn, next}
 use Rattle.load_gen.specs.Script.{group, group_by, groups, read_text, write_text}

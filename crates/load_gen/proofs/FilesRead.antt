@@ -15,9 +15,9 @@ use Rattle.script_text.specs.Limits.{most_bytes, most_content, most_files}
 use Rattle.script_text.specs.declared.blocks.FileBlock.{FileBlock}
 use Rattle.script_text.specs.declared.head.Head.TheVariants as head
 use Rattle.script_text.proofs.Lasts.{length_changed}
-use Rattle.script_print.specs.Lines.{Line, is_plain, line_text}
-use Rattle.script_print.proofs.Many.{IsAt, again_at}
-use Rattle.script_print.proofs.Words.{decimal_plain, ino_back, path_plain}
+use Rattle.script_spelling.specs.Lines.{Line, is_plain, line_text}
+use Rattle.script_spelling.proofs.Many.{IsAt, again_at}
+use Rattle.script_spelling.proofs.Words.{decimal_plain, ino_back, path_plain}
 use Rattle.load_gen.specs.Draws.{drawn, next}
 use Rattle.load_gen.specs.Script.{file_text, files}
 use Rattle.load_gen.proofs.Fills.{digits_plain, fill_text, fill_value_back}

@@ -13,8 +13,8 @@ use Rattle.text_forms.specs.Words.{is_visible}
 use Rattle.text_forms.proofs.ShortNumbers.{short_number_of-decimal}
 use Rattle.script_words.specs.Value.{fill_value, value_of, within}
 use Rattle.script_text.specs.Forms.{are_bytes}
-use Rattle.script_print.specs.Lines.{is_plain}
-use Rattle.script_print.proofs.Words.{decimal_plain, hex_plain}
+use Rattle.script_spelling.specs.Lines.{is_plain}
+use Rattle.script_spelling.proofs.Words.{decimal_plain, hex_plain}
 use Rattle.load_gen.proofs.Numbered.{end_back, fill_end}
 
 at_most : (n most : ℕ) → n ≤ most → nat_le n most ≡ true

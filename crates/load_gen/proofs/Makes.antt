@@ -6,10 +6,10 @@ use Rattle.script_text.specs.Draft.{Draft}
 use Rattle.script_text.specs.Grammar.{with_head}
 use Rattle.script_text.specs.Heads.{head_of, rank, stands}
 use Rattle.script_text.specs.declared.head.Head.{Head}
-use Rattle.script_print.specs.Lines.{Line, begins_line, is_plain, line_text, lines_text}
-use Rattle.script_print.proofs.Lines.{text_after}
-use Rattle.script_print.proofs.Pieces.{lines_more}
-use Rattle.script_print.proofs.Steps.{Reads, followed, nothing, one_line}
+use Rattle.script_spelling.specs.Lines.{Line, begins_line, is_plain, line_text, lines_text}
+use Rattle.script_spelling.proofs.Lines.{text_after}
+use Rattle.script_spelling.proofs.Pieces.{lines_more}
+use Rattle.script_spelling.proofs.Steps.{Reads, followed, nothing, one_line}
 
 -- reading the text's lines after the draft d makes a draft of which Q holds
 pub record Makes (d : Draft) (text : List ℕ) (Q : Draft → Type 0) : Type 0 where

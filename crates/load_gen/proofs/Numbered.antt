@@ -11,8 +11,8 @@ use Rattle.script_words.specs.Forms.{small_of}
 use Rattle.script_words.specs.Value.{end_byte}
 use Rattle.script_text.specs.Places.{one_on, place_in}
 use Rattle.script_text.proofs.Holding.{left_true, right_true}
-use Rattle.script_print.proofs.PathsAgain.{place_first}
-use Rattle.script_print.proofs.Words.{small_back}
+use Rattle.script_spelling.proofs.PathsAgain.{place_first}
+use Rattle.script_spelling.proofs.Words.{small_back}
 
 -- ---- tests of all numbers below a bound
 

@@ -11,9 +11,9 @@ use Rattle.script_text.specs.Draft.{Draft, start}
 use Rattle.script_text.specs.Grammar.{with_head}
 use Rattle.script_text.specs.Settings.{hashed_by, shown_by, with_key, with_super}
 use Rattle.script_text.specs.declared.head.Head.TheVariants as head
-use Rattle.script_print.specs.Lines.{Line}
-use Rattle.script_print.proofs.SettingsAgain.{at_rank, hash_line, mode_line, template_line, version_line}
-use Rattle.script_print.proofs.Steps.{Reads, followed, one_line}
+use Rattle.script_spelling.specs.Lines.{Line}
+use Rattle.script_spelling.proofs.SettingsAgain.{at_rank, hash_line, mode_line, template_line, version_line}
+use Rattle.script_spelling.proofs.Steps.{Reads, followed, one_line}
 use Rattle.load_gen.specs.Script.{settings_text}
 use Rattle.load_gen.proofs.Makes.{Makes}
 

@@ -16,8 +16,8 @@ use Rattle.script_text.specs.Places.{place_in}
 use Rattle.script_text.specs.Tasks.{with_cred, with_rule, with_task}
 use Rattle.script_text.specs.declared.blocks.TaskBlock.{TaskBlock}
 use Rattle.script_text.specs.declared.head.Head.TheVariants as head
-use Rattle.script_print.specs.Lines.{Line, line_text, words_text}
-use Rattle.script_print.proofs.Many.{IsAt, again_at}
+use Rattle.script_spelling.specs.Lines.{Line, line_text, words_text}
+use Rattle.script_spelling.proofs.Many.{IsAt, again_at}
 use Rattle.load_gen.specs.Accepted.{never_waits}
 use Rattle.load_gen.specs.Script.{groups, rules_text, tasks}
 use Rattle.load_gen.proofs.CallsRead.{Finds, InTask, groups_read}

@@ -5,6 +5,5 @@
 mod draws;
 mod text;
 
-pub use script_print as prints;
 pub use std::alloc::AllocError as OutOfMemory;
 pub use text::script;

@@ -23,10 +23,10 @@ use Rattle.call_lines.proofs.Holding.{left_true, right_true}
 use Rattle.script_text.proofs.Lasts.{change_after, last_after}
 use Rattle.call_lines.proofs.ValueForms.{is_value}
 use Rattle.call_lines.specs.Form.{hex_text}
-use Rattle.script_print.specs.Spelling.{attr_line}
-use Rattle.script_print.proofs.Many.{Leads, by_map, many}
-use Rattle.script_print.proofs.Steps.{one_line}
-use Rattle.script_print.proofs.Words.{hex_plain, value_back, word_plain}
+use Rattle.script_spelling.specs.Spelling.{attr_line}
+use Rattle.script_spelling.proofs.Many.{Leads, by_map, many}
+use Rattle.script_spelling.proofs.Steps.{one_line}
+use Rattle.script_spelling.proofs.Words.{hex_plain, value_back, word_plain}
 
 -- ---- names in byte order
 

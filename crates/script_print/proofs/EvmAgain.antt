@@ -22,11 +22,11 @@ use Rattle.script_text.specs.declared.head.Head.TheVariants as head
 use Rattle.call_lines.proofs.Holding.{both_true, left_true, right_true}
 use Rattle.call_lines.specs.Lines.{is_plain}
 use Rattle.call_lines.specs.Form.{hex_text}
-use Rattle.script_print.specs.Spelling.{evm_lines, format_word, key_lines, lock_lines, name_line}
-use Rattle.script_print.proofs.Many.{IsAt, Leads, above, again_at, by_map, many}
-use Rattle.script_print.proofs.SettingsAgain.{after_mode, draft}
-use Rattle.script_print.proofs.Steps.{Reads, followed, nothing, one_line}
-use Rattle.script_print.proofs.Words.{hex_plain, value_back, word_plain}
+use Rattle.script_spelling.specs.Spelling.{evm_lines, format_word, key_lines, lock_lines, name_line}
+use Rattle.script_spelling.proofs.Many.{IsAt, Leads, above, again_at, by_map, many}
+use Rattle.script_spelling.proofs.SettingsAgain.{after_mode, draft}
+use Rattle.script_spelling.proofs.Steps.{Reads, followed, nothing, one_line}
+use Rattle.script_spelling.proofs.Words.{hex_plain, value_back, word_plain}
 
 -- ---- the key
 

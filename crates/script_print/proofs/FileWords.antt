@@ -11,9 +11,9 @@ use Rattle.script_text.specs.declared.blocks.FileBlock.{FileBlock}
 use Rattle.call_lines.proofs.Holding.{left_true, right_true}
 use Rattle.call_lines.specs.Lines.{is_plain}
 use Rattle.call_lines.specs.Form.{octal}
-use Rattle.script_print.specs.Spelling.{meta_words}
+use Rattle.script_spelling.specs.Spelling.{meta_words}
 use Rattle.script_print.proofs.AttrsAgain.{with_attrs}
-use Rattle.script_print.proofs.Words.{decimal_plain, id_back, id_plain, ino_back, ino_plain, mode_back, numeral_back, octal_plain, path_plain}
+use Rattle.script_spelling.proofs.Words.{decimal_plain, id_back, id_plain, ino_back, ino_plain, mode_back, numeral_back, octal_plain, path_plain}
 
 -- the front of a block, as the words that `file` and `absent` share give it
 abbrev pub front_for : FileBlock → Front

@@ -25,13 +25,13 @@ use Rattle.call_lines.proofs.Holding.{left_true, right_true}
 use Rattle.call_lines.proofs.ValueForms.{is_value}
 use Rattle.call_lines.specs.Lines.{Line, is_plain}
 use Rattle.call_lines.specs.Form.{hex_text}
-use Rattle.script_print.specs.Spelling.{attr_line, file_line, file_lines, kind_word}
+use Rattle.script_spelling.specs.Spelling.{attr_line, file_line, file_lines, kind_word}
 use Rattle.script_print.proofs.AttrsAgain.{attrs_again, putting}
 use Rattle.script_print.proofs.FileWords.{IsMeta, bare_block, front_back, front_for, meta_parts, shared_plain, shared_words}
-use Rattle.script_print.proofs.Many.{IsAt, Leads, again_at, many}
-use Rattle.script_print.proofs.Steps.{Reads, followed, one_line}
+use Rattle.script_spelling.proofs.Many.{IsAt, Leads, again_at, many}
+use Rattle.script_spelling.proofs.Steps.{Reads, followed, one_line}
 use Rattle.script_print.proofs.SupersAgain.{after_supers}
-use Rattle.script_print.proofs.Words.{hex_plain, place_back, value_back}
+use Rattle.script_spelling.proofs.Words.{hex_plain, place_back, value_back}
 
 at_most : (n most : ℕ) → n ≤ most → nat_le n most ≡ true
 at_most n most h = grind (arith, nat_tests)

@@ -3,14 +3,7 @@ pub mod EvmAgain
 pub mod FileWords
 pub mod FilesAgain
 pub mod HexPages
-pub mod Lines
-pub mod Many
-pub mod PathsAgain
-pub mod Pieces
 pub mod RulesAgain
 pub mod ScriptAgain
-pub mod SettingsAgain
-pub mod Steps
 pub mod SupersAgain
 pub mod TasksAgain
-pub mod Words

@@ -12,10 +12,10 @@ use Rattle.script_text.specs.Limits.{most_rules}
 use Rattle.script_text.specs.Tasks.{with_rule}
 use Rattle.script_text.specs.declared.head.Head.TheVariants as head
 use Rattle.call_lines.specs.Rules.{IsReadRule}
-use Rattle.script_print.specs.Spelling.{rule_line}
+use Rattle.script_spelling.specs.Spelling.{rule_line}
 use Rattle.call_lines.proofs.Rules.{rule_back, rule_plain}
-use Rattle.script_print.proofs.Many.{IsAt, Leads, again_at, by_map, many}
-use Rattle.script_print.proofs.Steps.{Reads, one_line}
+use Rattle.script_spelling.proofs.Many.{IsAt, Leads, again_at, by_map, many}
+use Rattle.script_spelling.proofs.Steps.{Reads, one_line}
 
 room : (n m : ℕ) → n < m → nat_lt n m ≡ true
 room n m h = grind (arith, nat_tests)

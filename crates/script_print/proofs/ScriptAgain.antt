@@ -23,19 +23,19 @@ use Rattle.script_text.specs.declared.blocks.TaskBlock.{TaskBlock}
 use Rattle.script_text.specs.declared.head.Head.TheVariants as head
 use Rattle.call_lines.proofs.Holding.{both_true, left_true, right_true}
 use Rattle.call_lines.specs.Lines.{is_plain}
-use Rattle.script_print.specs.Rules.{AreReadRules, IsReadRule}
-use Rattle.script_print.specs.Spelling.{ending_line, evm_lines, file_lines, rule_line, script_lines, script_text, setting_lines, super_line, task_lines}
+use Rattle.script_spelling.specs.Rules.{AreReadRules, IsReadRule}
+use Rattle.script_spelling.specs.Spelling.{ending_line, evm_lines, file_lines, rule_line, script_lines, script_text, setting_lines, super_line, task_lines}
 use Rattle.script_print.proofs.EvmAgain.{after_evm, evm_again}
 use Rattle.script_print.proofs.FilesAgain.{Filed, filing, files_again}
-use Rattle.script_print.proofs.Lines.{fields_words_text}
-use Rattle.script_print.proofs.Many.{IsAt, Leads, above}
-use Rattle.script_print.proofs.PathsAgain.{AreFound}
+use Rattle.script_spelling.proofs.Lines.{fields_words_text}
+use Rattle.script_spelling.proofs.Many.{IsAt, Leads, above}
+use Rattle.script_spelling.proofs.PathsAgain.{AreFound}
 use Rattle.script_print.proofs.RulesAgain.{ruling, rules_again}
-use Rattle.script_print.proofs.SettingsAgain.{after_mode, draft, settings_again}
-use Rattle.script_print.proofs.Steps.{Reads, followed, one_line, text_read}
+use Rattle.script_spelling.proofs.SettingsAgain.{after_mode, draft, settings_again}
+use Rattle.script_spelling.proofs.Steps.{Reads, followed, one_line, text_read}
 use Rattle.script_print.proofs.SupersAgain.{after_supers, supers_again}
 use Rattle.script_print.proofs.TasksAgain.{Tasked, tasking, tasks_again}
-use Rattle.script_print.proofs.Words.{any_number_back, decimal_plain, numeral, place_back}
+use Rattle.script_spelling.proofs.Words.{any_number_back, decimal_plain, numeral, place_back}
 
 -- ---- the ending
 

@@ -18,12 +18,12 @@ use Rattle.script_text.specs.fields.SuperFields.{super_in, versions_of}
 use Rattle.script_text.specs.declared.head.Head.TheVariants as head
 use Rattle.call_lines.proofs.Holding.{left_true, right_true}
 use Rattle.call_lines.specs.Lines.{is_plain}
-use Rattle.script_print.specs.Spelling.{super_line, versions_word}
+use Rattle.script_spelling.specs.Spelling.{super_line, versions_word}
 use Rattle.script_print.proofs.EvmAgain.{after_evm}
-use Rattle.script_print.proofs.Many.{IsAt, Leads, again_at, by_map, many}
-use Rattle.script_print.proofs.SettingsAgain.{draft}
-use Rattle.script_print.proofs.Steps.{Reads, one_line}
-use Rattle.script_print.proofs.Words.{word_plain}
+use Rattle.script_spelling.proofs.Many.{IsAt, Leads, again_at, by_map, many}
+use Rattle.script_spelling.proofs.SettingsAgain.{draft}
+use Rattle.script_spelling.proofs.Steps.{Reads, one_line}
+use Rattle.script_spelling.proofs.Words.{word_plain}
 
 versions_plain : (b : Bool) → is_plain (versions_word b) ≡ true
 versions_plain true = refl

@@ -26,13 +26,13 @@ use Rattle.call_lines.specs.declared.table.CallWord.{CallWord}
 use Rattle.call_lines.proofs.Again.{call_back}
 use Rattle.call_lines.proofs.Rows.{first_word, told-spoken}
 use Rattle.script_text.specs.Heads.{head_of, head_with, section_of}
-use Rattle.script_print.specs.Rules.{AreReadRules, HasReadRule}
-use Rattle.script_print.specs.Spelling.{admin_words, task_line, task_lines}
+use Rattle.script_spelling.specs.Rules.{AreReadRules, HasReadRule}
+use Rattle.script_spelling.specs.Spelling.{admin_words, task_line, task_lines}
 use Rattle.call_lines.proofs.Rules.{text_after}
-use Rattle.script_print.proofs.Many.{IsAt, Leads, again_at, by_map, many}
-use Rattle.script_print.proofs.PathsAgain.{AreFound, paths_known}
-use Rattle.script_print.proofs.Steps.{Reads, followed, one_line}
-use Rattle.script_print.proofs.Words.{id_back, id_plain}
+use Rattle.script_spelling.proofs.Many.{IsAt, Leads, again_at, by_map, many}
+use Rattle.script_spelling.proofs.PathsAgain.{AreFound, paths_known}
+use Rattle.script_spelling.proofs.Steps.{Reads, followed, one_line}
+use Rattle.script_spelling.proofs.Words.{id_back, id_plain}
 
 room : (n m : ℕ) → n < m → nat_lt n m ≡ true
 room n m h = grind (arith, nat_tests)

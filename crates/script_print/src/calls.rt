@@ -6,10 +6,11 @@ ghost use Rattle.call_lines.specs.Calls.{call_line};
 ghost use Rattle.call_lines.specs.Lines.{line_text, lines_text};
 ghost use Rattle.call_lines.specs.Rules.{HasReadRule, IsReadRule};
 ghost use Rattle.script_text.specs.Forms.{path_of_block};
-ghost use Rattle.script_print.specs.Rules.{AreReadRules};
-ghost use Rattle.script_print.specs.Spelling.{ending_line, rule_line, task_line, task_lines};
+ghost use Rattle.script_spelling.specs.Rules.{AreReadRules};
+ghost use Rattle.script_spelling.specs.Spelling.{ending_line, rule_line, task_line, task_lines};
 
-use call_lines::{push_call, push_number};
+use crate::call::push_call;
+use crate::pushed::push_number;
 use call_steps::{Call, Ending};
 use inode_meta::Cred;
 use policy_text::{Rule, print_rule};

@@ -3,9 +3,9 @@
 ghost use Rattle.std.specs.Prelude.{◌≡◌, ◌++◌, codes, flat_map, OnOk};
 ghost use Rattle.call_lines.specs.Lines.{line_text, lines_text, spaced};
 ghost use Rattle.call_lines.specs.Form.{hex_text};
-ghost use Rattle.script_print.specs.Spelling.{attr_line, content_words, file_line, file_lines, kind_word, meta_words};
+ghost use Rattle.script_spelling.specs.Spelling.{attr_line, content_words, file_line, file_lines, kind_word, meta_words};
 
-use call_lines::{push_hex, push_number, push_octal, push_value, push_word};
+use crate::pushed::{push_hex, push_number, push_octal, push_value, push_word};
 use inode_events::Image;
 use inode_meta::Meta;
 use inode_pages::Content;

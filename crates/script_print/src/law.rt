@@ -5,8 +5,8 @@ ghost use Rattle.std.specs.List.{AllByRecursion};
 ghost use Rattle.script_text.specs.Forms.{IsScript};
 ghost use Rattle.script_text.specs.Grammar.{script_of};
 ghost use Rattle.script_text.specs.ScriptValue.{ScriptValue};
-ghost use Rattle.script_print.specs.Rules.{AreReadRules, IsReadRule};
-ghost use Rattle.script_print.specs.Spelling.{script_text};
+ghost use Rattle.script_spelling.specs.Rules.{AreReadRules, IsReadRule};
+ghost use Rattle.script_spelling.specs.Spelling.{script_text};
 
 /// The canonical text of a script is read as the same script. It has all settings except an absent
 /// key, with the `boot` digest among them, and then the sections in order. Values are spelled as

@@ -1,11 +1,13 @@
 //! The canonical text of a script, which is read as the same script.
 //!
-//! `specs/Spelling` defines the text line by line, each line by its words.
+//! `specs/Spelling` of `script_spelling` defines the text line by line, each line by its words.
 #![tactic(auto)]
 
+mod call;
 mod calls;
 mod files;
 mod law;
+mod named;
 mod pushed;
 mod script;
 mod settings;

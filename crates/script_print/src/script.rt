@@ -4,8 +4,8 @@ ghost use Rattle.std.specs.Prelude.{◌≡◌, ◌++◌, IfOk, Ok, OnOk};
 ghost use Rattle.std.specs.List.{AllByRecursion};
 ghost use Rattle.call_lines.specs.Lines.{lines_text};
 ghost use Rattle.script_text.specs.Grammar.{script_of};
-ghost use Rattle.script_print.specs.Rules.{AreReadRules, IsReadRule};
-ghost use Rattle.script_print.specs.Spelling.{script_text, system_lines, work_lines};
+ghost use Rattle.script_spelling.specs.Rules.{AreReadRules, IsReadRule};
+ghost use Rattle.script_spelling.specs.Spelling.{script_text, system_lines, work_lines};
 
 use crate::calls::{paths_of, push_ending, push_rules, push_tasks};
 use crate::files::push_files;

@@ -3,10 +3,9 @@
 ghost use Rattle.std.specs.Prelude.{◌≡◌, ◌++◌, codes, flat_map, OnOk};
 ghost use Rattle.text_forms.specs.FileSystems.{magic_text, uuid_text};
 ghost use Rattle.call_lines.specs.Lines.{line_text, lines_text};
-ghost use Rattle.script_print.specs.Spelling.{evm_lines, format_word, key_lines, lock_lines, name_line, setting_lines, super_line, versions_word};
+ghost use Rattle.script_spelling.specs.Spelling.{evm_lines, format_word, key_lines, lock_lines, name_line, setting_lines, super_line, versions_word};
 
-use crate::pushed::{push_line, push_value_line};
-use call_lines::push_word;
+use crate::pushed::{push_line, push_value_line, push_word};
 use policy_text::Super;
 use script_text::Script;
 use std::alloc::AllocError as OutOfMemory;

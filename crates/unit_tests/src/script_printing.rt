@@ -2,7 +2,7 @@
 // text.
 
 use crate::cases::Cases;
-use load_gen::prints::print;
+use script_print::print;
 use script_text::parse;
 use std::alloc::Global;
 

@@ -3,7 +3,7 @@ use Rattle.std.proofs.lemmas.List.{take_all}
 use Rattle.std.proofs.lemmas.Result.{err_from_is_err_and}
 use Rattle.script_text.specs.declared.blocks.FileBlock.{FileBlock}
 use Rattle.script_text.specs.Forms.{path_of_block}
-use Rattle.script_print.proofs.Pieces.{map_more}
+use Rattle.script_spelling.proofs.Pieces.{map_more}
 use Rattle.script_print.proofs.calls.paths_of.Goals as goal
 
 pub loop-file-init : goal.loop-file-init

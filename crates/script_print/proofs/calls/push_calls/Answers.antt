@@ -4,7 +4,7 @@ use Rattle.std.proofs.lemmas.Result.{err_from_is_err_and}
 use Rattle.call_lines.specs.Calls.{call_line}
 use Rattle.call_lines.specs.Lines.{line_text, words_text}
 use Rattle.call_lines.specs.Rules.{HasReadRule}
-use Rattle.script_print.proofs.Pieces.{all_done, all_more, text_all, text_more}
+use Rattle.script_spelling.proofs.Pieces.{all_done, all_more, text_all, text_more}
 use Rattle.script_print.proofs.calls.push_calls.Goals as goal
 
 pub loop-call-init : goal.loop-call-init

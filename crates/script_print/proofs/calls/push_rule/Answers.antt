@@ -1,5 +1,5 @@
 use Rattle.std.specs.Prelude.{codes}
-use Rattle.script_print.proofs.Pieces.{rule_put}
+use Rattle.script_spelling.proofs.Pieces.{rule_put}
 use Rattle.script_print.proofs.calls.push_rule.Goals as goal
 
 pub returns-clause-text : goal.returns-clause-text

@@ -3,8 +3,8 @@ use Rattle.std.proofs.lemmas.List.{append-nil}
 use Rattle.std.proofs.lemmas.Result.{err_from_is_err_and}
 use Rattle.call_lines.specs.Lines.{line_text}
 use Rattle.call_lines.specs.Rules.{IsReadRule}
-use Rattle.script_print.specs.Spelling.{rule_line}
-use Rattle.script_print.proofs.Pieces.{all_done, all_more, text_all, text_more}
+use Rattle.script_spelling.specs.Spelling.{rule_line}
+use Rattle.script_spelling.proofs.Pieces.{all_done, all_more, text_all, text_more}
 use Rattle.script_print.proofs.calls.push_rules.Goals as goal
 
 pub loop-rule-init : goal.loop-rule-init

@@ -3,7 +3,7 @@ use Rattle.std.proofs.Common.{◌≡◌, ◌++◌, take}
 use Rattle.std.specs.List.{AllByRecursion, flat_map}
 use Rattle.call_lines.specs.Lines.{line_text}
 use Rattle.call_lines.specs.Rules.{IsReadRule}
-use Rattle.script_print.specs.Spelling.{rule_line}
+use Rattle.script_spelling.specs.Spelling.{rule_line}
 use Rattle.script_print.proofs.calls.push_rules.Given as goal
 
 abbrev pub invariant-loop-rule : goal.invariant-loop-rule

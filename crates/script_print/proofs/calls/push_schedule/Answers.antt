@@ -1,5 +1,5 @@
 use Rattle.std.specs.Prelude.{codes}
-use Rattle.script_print.proofs.Pieces.{turns_put}
+use Rattle.script_spelling.proofs.Pieces.{turns_put}
 use Rattle.script_print.proofs.calls.push_schedule.Goals as goal
 
 pub returns : goal.returns

@@ -3,8 +3,8 @@ use Rattle.std.specs.List.{flat_map}
 use Rattle.std.proofs.lemmas.Result.{on_ok_weaker}
 use Rattle.call_lines.specs.Lines.{line_text}
 use Rattle.call_lines.specs.Calls.{call_line}
-use Rattle.script_print.specs.Spelling.{task_line}
-use Rattle.script_print.proofs.Pieces.{block_put, text_of_map}
+use Rattle.script_spelling.specs.Spelling.{task_line}
+use Rattle.script_spelling.proofs.Pieces.{block_put, text_of_map}
 use Rattle.script_print.proofs.calls.push_task.Goals as goal
 
 pub returns-clause-text : goal.returns-clause-text

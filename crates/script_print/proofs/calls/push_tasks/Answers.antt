@@ -2,9 +2,9 @@ use Rattle.std.proofs.Common.{map, sym}
 use Rattle.std.proofs.lemmas.List.{append-nil}
 use Rattle.std.proofs.lemmas.Result.{err_from_is_err_and}
 use Rattle.call_lines.specs.Lines.{lines_text}
-use Rattle.script_print.specs.Rules.{AreReadRules}
-use Rattle.script_print.specs.Spelling.{task_lines}
-use Rattle.script_print.proofs.Pieces.{all_done, all_more, text_all, text_more}
+use Rattle.script_spelling.specs.Rules.{AreReadRules}
+use Rattle.script_spelling.specs.Spelling.{task_lines}
+use Rattle.script_spelling.proofs.Pieces.{all_done, all_more, text_all, text_more}
 use Rattle.script_print.proofs.calls.push_tasks.Goals as goal
 
 pub loop-task-init : goal.loop-task-init

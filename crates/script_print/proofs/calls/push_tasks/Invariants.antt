@@ -2,8 +2,8 @@
 use Rattle.std.proofs.Common.{◌≡◌, ◌++◌, map, take}
 use Rattle.std.specs.List.{AllByRecursion, flat_map}
 use Rattle.call_lines.specs.Lines.{lines_text}
-use Rattle.script_print.specs.Rules.{AreReadRules}
-use Rattle.script_print.specs.Spelling.{task_lines}
+use Rattle.script_spelling.specs.Rules.{AreReadRules}
+use Rattle.script_spelling.specs.Spelling.{task_lines}
 use Rattle.script_print.proofs.calls.push_tasks.Given as goal
 
 abbrev pub invariant-loop-task : goal.invariant-loop-task

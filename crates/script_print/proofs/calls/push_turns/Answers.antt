@@ -3,7 +3,7 @@ use Rattle.std.specs.Prelude.{decimal}
 use Rattle.std.proofs.lemmas.List.{append-nil}
 use Rattle.std.proofs.lemmas.Result.{err_from_is_err_and}
 use Rattle.list_lemmas.proofs.Appending.{one_more}
-use Rattle.script_print.proofs.Pieces.{text_all}
+use Rattle.script_spelling.proofs.Pieces.{text_all}
 use Rattle.script_print.proofs.calls.push_turns.Goals as goal
 
 pub loop-turn-init : goal.loop-turn-init

@@ -2,7 +2,7 @@
 use Rattle.std.proofs.Common.{◌≡◌, ◌++◌, take}
 use Rattle.std.specs.List.{flat_map}
 use Rattle.call_lines.specs.Lines.{line_text}
-use Rattle.script_print.specs.Spelling.{attr_line}
+use Rattle.script_spelling.specs.Spelling.{attr_line}
 use Rattle.script_print.proofs.files.push_attrs.Given as goal
 
 abbrev pub invariant-loop-attr : goal.invariant-loop-attr

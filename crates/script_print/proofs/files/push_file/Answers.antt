@@ -2,8 +2,8 @@ use Rattle.std.proofs.Common.{map}
 use Rattle.std.specs.List.{flat_map}
 use Rattle.std.proofs.lemmas.Result.{on_ok_weaker}
 use Rattle.call_lines.specs.Lines.{line_text}
-use Rattle.script_print.specs.Spelling.{attr_line, file_line}
-use Rattle.script_print.proofs.Pieces.{block_put, text_of_map}
+use Rattle.script_spelling.specs.Spelling.{attr_line, file_line}
+use Rattle.script_spelling.proofs.Pieces.{block_put, text_of_map}
 use Rattle.script_print.proofs.files.push_file.Goals as goal
 
 pub returns : goal.returns

@@ -2,8 +2,8 @@ use Rattle.std.proofs.Common.{sym}
 use Rattle.std.proofs.lemmas.List.{append-nil}
 use Rattle.std.proofs.lemmas.Result.{err_from_is_err_and}
 use Rattle.call_lines.specs.Lines.{lines_text}
-use Rattle.script_print.specs.Spelling.{file_lines}
-use Rattle.script_print.proofs.Pieces.{text_all, text_more}
+use Rattle.script_spelling.specs.Spelling.{file_lines}
+use Rattle.script_spelling.proofs.Pieces.{text_all, text_more}
 use Rattle.script_print.proofs.files.push_files.Goals as goal
 
 pub loop-file-init : goal.loop-file-init

@@ -1,8 +1,8 @@
 use Rattle.std.proofs.Common.{◌++◌}
 use Rattle.std.specs.Prelude.{codes}
 use Rattle.std.specs.Fmt.{decimal}
-use Rattle.script_print.specs.Spelling.{content_words, kind_word, meta_words}
-use Rattle.script_print.proofs.Pieces.{front_put}
+use Rattle.script_spelling.specs.Spelling.{content_words, kind_word, meta_words}
+use Rattle.script_spelling.proofs.Pieces.{front_put}
 use Rattle.script_print.proofs.files.push_front.Goals as goal
 
 pub returns : goal.returns

@@ -1,8 +1,8 @@
 use Rattle.std.proofs.Common.{map, ap, ◌∙◌}
 use Rattle.std.specs.List.{flat_map}
 use Rattle.script_text.specs.Grammar.{script_of}
-use Rattle.script_print.specs.Spelling.{evm_lines, file_lines, script_text, setting_lines, super_line, work_lines}
-use Rattle.script_print.proofs.Pieces.{halves_put}
+use Rattle.script_spelling.specs.Spelling.{evm_lines, file_lines, script_text, setting_lines, super_line, work_lines}
+use Rattle.script_spelling.proofs.Pieces.{halves_put}
 use Rattle.script_print.proofs.ScriptAgain.{script_again}
 use Rattle.script_print.proofs.script.print.Goals as goal
 

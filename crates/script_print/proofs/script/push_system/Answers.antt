@@ -3,8 +3,8 @@ use Rattle.std.specs.List.{flat_map}
 use Rattle.std.proofs.lemmas.Result.{on_ok_weaker}
 use Rattle.script_text.specs.ScriptValue.{ScriptValue}
 use Rattle.call_lines.specs.Lines.{line_text, lines_text}
-use Rattle.script_print.specs.Spelling.{evm_lines, file_lines, setting_lines, super_line}
-use Rattle.script_print.proofs.Pieces.{four_put, text_of_flat, text_of_map}
+use Rattle.script_spelling.specs.Spelling.{evm_lines, file_lines, setting_lines, super_line}
+use Rattle.script_spelling.proofs.Pieces.{four_put, text_of_flat, text_of_map}
 use Rattle.script_print.proofs.script.push_system.Goals as goal
 
 pub returns : goal.returns

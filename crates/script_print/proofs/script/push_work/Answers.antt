@@ -7,9 +7,9 @@ use Rattle.script_text.specs.ScriptValue.{ScriptValue}
 use Rattle.script_text.specs.declared.blocks.TaskBlock.{TaskBlock}
 use Rattle.call_lines.specs.Lines.{line_text, lines_text}
 use Rattle.call_lines.specs.Rules.{IsReadRule}
-use Rattle.script_print.specs.Rules.{AreReadRules}
-use Rattle.script_print.specs.Spelling.{ending_line, rule_line, task_lines}
-use Rattle.script_print.proofs.Pieces.{text_of_flat, text_of_map, three_put}
+use Rattle.script_spelling.specs.Rules.{AreReadRules}
+use Rattle.script_spelling.specs.Spelling.{ending_line, rule_line, task_lines}
+use Rattle.script_spelling.proofs.Pieces.{text_of_flat, text_of_map, three_put}
 use Rattle.script_print.proofs.script.push_work.Goals as goal
 
 pub returns-clause-text : goal.returns-clause-text

@@ -4,8 +4,8 @@ use Rattle.std.specs.List.{flat_map}
 use Rattle.std.proofs.lemmas.Result.{on_ok_weaker}
 use Rattle.script_text.specs.ScriptValue.{ScriptValue}
 use Rattle.call_lines.specs.Lines.{line_text, lines_text}
-use Rattle.script_print.specs.Spelling.{format_word, key_lines, lock_lines, name_line}
-use Rattle.script_print.proofs.Pieces.{four_put, one_line_text, text_of_map}
+use Rattle.script_spelling.specs.Spelling.{format_word, key_lines, lock_lines, name_line}
+use Rattle.script_spelling.proofs.Pieces.{four_put, one_line_text, text_of_map}
 use Rattle.script_print.proofs.settings.push_evm.Goals as goal
 
 pub returns : goal.returns

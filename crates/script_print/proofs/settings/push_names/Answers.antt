@@ -2,8 +2,8 @@ use Rattle.std.proofs.Common.{sym}
 use Rattle.std.proofs.lemmas.List.{append-nil}
 use Rattle.std.proofs.lemmas.Result.{err_from_is_err_and}
 use Rattle.call_lines.specs.Lines.{line_text}
-use Rattle.script_print.specs.Spelling.{name_line}
-use Rattle.script_print.proofs.Pieces.{text_all, text_more}
+use Rattle.script_spelling.specs.Spelling.{name_line}
+use Rattle.script_spelling.proofs.Pieces.{text_all, text_more}
 use Rattle.script_print.proofs.settings.push_names.Goals as goal
 
 pub loop-name-init : goal.loop-name-init

@@ -2,7 +2,7 @@
 use Rattle.std.proofs.Common.{◌≡◌, ◌++◌, take}
 use Rattle.std.specs.List.{flat_map}
 use Rattle.call_lines.specs.Lines.{line_text}
-use Rattle.script_print.specs.Spelling.{name_line}
+use Rattle.script_spelling.specs.Spelling.{name_line}
 use Rattle.script_print.proofs.settings.push_names.Given as goal
 
 abbrev pub invariant-loop-name : goal.invariant-loop-name

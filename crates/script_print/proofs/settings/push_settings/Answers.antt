@@ -5,7 +5,7 @@ use Rattle.hash_algos.specs.Algo.{algo_name}
 use Rattle.inode_meta.specs.Words.{mode_word, template_word}
 use Rattle.script_text.specs.ScriptValue.{ScriptValue}
 use Rattle.call_lines.specs.Form.{hex_text}
-use Rattle.script_print.proofs.Pieces.{five_put}
+use Rattle.script_spelling.proofs.Pieces.{five_put}
 use Rattle.script_print.proofs.settings.push_settings.Goals as goal
 
 pub returns : goal.returns

@@ -1,8 +1,8 @@
 use Rattle.std.proofs.Common.{◌++◌}
 use Rattle.std.specs.Prelude.{codes}
 use Rattle.text_forms.specs.FileSystems.{magic_text, uuid_text}
-use Rattle.script_print.specs.Spelling.{versions_word}
-use Rattle.script_print.proofs.Pieces.{super_put}
+use Rattle.script_spelling.specs.Spelling.{versions_word}
+use Rattle.script_spelling.proofs.Pieces.{super_put}
 use Rattle.script_print.proofs.settings.push_super.Goals as goal
 
 pub returns : goal.returns

@@ -27,9 +27,9 @@ use Rattle.script_text.specs.declared.head.Head.TheVariants as head
 use Rattle.call_lines.proofs.Holding.{both_true}
 use Rattle.call_lines.specs.Lines.{is_plain}
 use Rattle.call_lines.specs.Form.{hex_text}
-use Rattle.script_print.specs.Spelling.{setting_lines}
-use Rattle.script_print.proofs.Steps.{Reads, followed, one_line}
-use Rattle.script_print.proofs.Words.{hex_plain, value_back}
+use Rattle.script_spelling.specs.Spelling.{setting_lines}
+use Rattle.script_spelling.proofs.Steps.{Reads, followed, one_line}
+use Rattle.script_spelling.proofs.Words.{hex_plain, value_back}
 
 -- the draft after a line of this rank
 abbrev pub at_rank : Draft → ℕ → Draft

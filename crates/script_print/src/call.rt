@@ -1,4 +1,4 @@
-//! The canonical line of a call.
+// The canonical line of a call.
 
 ghost use Rattle.std.specs.Prelude.{◌≡◌, [], ◌∷◌, ◌++◌, codes, decimal, map, OnOk};
 ghost use Rattle.policy_text.specs.Spelling.{rule_words};
@@ -13,7 +13,7 @@ use call_steps::Call;
 use policy_text::{Rule, print_rule};
 use std::alloc::{AllocError as OutOfMemory, Global};
 
-/// Appends the canonical line of a call without its newline, if the files have these paths.
+// Appends the canonical line of a call without its newline, if the files have these paths.
 pub fn push_call(
     alloc: Global,
     out: &mut Vec<u8>,

@@ -5,7 +5,7 @@ use Rattle.std.proofs.lemmas.List.Concat.{flat_map_single}
 use Rattle.script_text.specs.Draft.{Draft}
 use Rattle.script_text.specs.Heads.{in_order}
 use Rattle.call_lines.specs.Lines.{Line}
-use Rattle.script_print.proofs.Steps.{Reads, followed, nothing}
+use Rattle.script_spelling.proofs.Steps.{Reads, followed, nothing}
 
 -- the lines lead to the draft of a state that satisfies Q
 pub record Leads (S : Type 0) (draft : S → Draft) (d : Draft) (ls : List Line) (Q : S → Type 0)

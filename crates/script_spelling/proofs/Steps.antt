@@ -16,7 +16,7 @@ use Rattle.script_text.specs.declared.head.Head.{Head}
 use Rattle.call_lines.proofs.Holding.{both_true}
 use Rattle.call_lines.specs.Lines.{Line, begins_line, is_plain, is_read_line, lines_text, words_text}
 use Rattle.call_lines.proofs.Rules.{text_after}
-use Rattle.script_print.proofs.Lines.{cut_words_text, fields_words_text, folded, lines_of, run}
+use Rattle.script_spelling.proofs.Lines.{cut_words_text, fields_words_text, folded, lines_of, run}
 
 -- the lines are read word by word, and lead from draft d to draft e
 pub record Reads (d : Draft) (ls : List Line) (e : Draft) : Type 0 where

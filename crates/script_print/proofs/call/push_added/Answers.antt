@@ -1,7 +1,7 @@
 use Rattle.std.specs.Prelude.{codes}
 use Rattle.std.proofs.lemmas.Result.{on_ok_weaker}
 use Rattle.call_lines.proofs.Rules.{added_put}
-use Rattle.call_lines.proofs.canonical.push_added.Goals as goal
+use Rattle.script_print.proofs.call.push_added.Goals as goal
 
 pub returns-clause-text : goal.returns-clause-text
 returns-clause-text c =

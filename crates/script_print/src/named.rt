@@ -1,4 +1,4 @@
-//! The lines of the calls that name a file.
+// The lines of the calls that name a file.
 
 ghost use Rattle.std.specs.Prelude.{◌≡◌, [], ◌∷◌, ◌++◌, map, Some, None, OnOk};
 ghost use Rattle.call_steps.specs.declared.call.Call.TheVariants as call;
@@ -24,7 +24,7 @@ fn path_at<'a>(paths: &[&'a [u8]], inode: u32) -> &'a [u8]
 }
 
 // Appends the line of a word and a file.
-pub(crate) fn push_named(
+pub fn push_named(
     out: &mut Vec<u8>,
     head: &[u8],
     paths: &[&[u8]],
@@ -37,7 +37,7 @@ pub(crate) fn push_named(
     push_word(out, path_at(paths, inode))
 }
 
-pub(crate) fn push_open(
+pub fn push_open(
     out: &mut Vec<u8>,
     paths: &[&[u8]],
     fd: u8,
@@ -80,12 +80,7 @@ fn way_text(how: How) -> &'static [u8]
     }
 }
 
-pub(crate) fn push_exec(
-    out: &mut Vec<u8>,
-    paths: &[&[u8]],
-    run: u8,
-    inode: u32,
-) -> Result<(), OutOfMemory>
+pub fn push_exec(out: &mut Vec<u8>, paths: &[&[u8]], run: u8, inode: u32) -> Result<(), OutOfMemory>
     ensures { OnOk result (out.new.items ≡ out.old.items
         ++ words_text (call_line (map (λ p. p.now) paths.now) (call.Exec run inode))) }
 {
@@ -94,7 +89,7 @@ pub(crate) fn push_exec(
 }
 
 // Appends the line that sets an attribute, or that removes it if there is no value.
-pub(crate) fn push_attr(
+pub fn push_attr(
     out: &mut Vec<u8>,
     paths: &[&[u8]],
     inode: u32,
@@ -142,7 +137,7 @@ fn push_removed(
 }
 
 // Appends the line that sets the mode or the owner of a file.
-pub(crate) fn push_change(
+pub fn push_change(
     out: &mut Vec<u8>,
     paths: &[&[u8]],
     inode: u32,

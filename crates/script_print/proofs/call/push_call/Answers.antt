@@ -5,7 +5,7 @@ use Rattle.policy_text.specs.Spelling.{rule_words}
 use Rattle.call_steps.specs.declared.call.Call.{Call}
 use Rattle.call_lines.specs.Calls.{call_line}
 use Rattle.call_lines.specs.Lines.{words_text}
-use Rattle.call_lines.proofs.canonical.push_call.Goals as goal
+use Rattle.script_print.proofs.call.push_call.Goals as goal
 
 -- a call without a rule has none to be read, whatever the result
 no_rule : {A E : Type 0} (r : Result A E) → OnOk r (Unit {0})
