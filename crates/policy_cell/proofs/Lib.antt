@@ -1,2 +1,3 @@
 pub use Rattle.grow_list.proofs as about_growing
 pub mod Rules
+pub mod Looks

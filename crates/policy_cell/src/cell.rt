@@ -2,7 +2,7 @@ ghost use Rattle.std.specs.Prelude.{◌≡◌, ℕ, ◌+◌, ◌<◌, ◌≤◌,
 ghost use mathlib.Core.List.{IsPrefix};
 ghost use Rattle.grow_list.specs.Entries.{has_place};
 ghost use Rattle.grow_list.specs.Shown.{IsSameList, HasItsOwn, HasEach, fresh};
-ghost use Rattle.policy_cell.specs.Policy.{in_force};
+ghost use Rattle.policy_cell.specs.Policy.{LooksAt, in_force};
 
 use grow_list::{Grow, Pass};
 use inode_meta::Who;
@@ -139,6 +139,17 @@ impl PolicyCell {
         ensures same_pass { (pass.new.name ≡ pass.old.name) × (pass.new.number ≡ pass.old.number) }
     {
         self.appended.look(pass);
+    }
+
+    /// Shows the appended rules to one pass of this policy, and then to another.
+    pub fn look_by_both(&mut self, first: &mut Pass<RuleEntry>, second: &mut Pass<RuleEntry>)
+        requires first { first.old.name ≡ self.old.appended.name }
+        requires second { second.old.name ≡ self.old.appended.name }
+        ensures first { LooksAt self.old self.new first.old first.new }
+        ensures second { LooksAt self.old self.new second.old second.new }
+    {
+        self.look(first);
+        self.look(second);
     }
 
     /// The number of appended rules.

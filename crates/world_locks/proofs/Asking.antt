@@ -4,7 +4,7 @@ use Rattle.std.specs.Prelude.{Result}
 use Rattle.std.proofs.lemmas.List.{append-nil}
 use Rattle.std.proofs.lemmas.Option.{get_or_from_slice_get}
 use mathlib.Core.List.{IsPrefix}
-use Rattle.grow_list.specs.Shown.{Grown, IsSameList, Passed}
+use Rattle.grow_list.specs.Shown.{Grown, Passed}
 use Rattle.ima_templates.specs.declared.entry.Entry.{Entry}
 use Rattle.inode_meta.specs.declared.identity.Cred.{Cred}
 use Rattle.inode_meta.specs.declared.step.Who.{Who}
@@ -12,7 +12,7 @@ use Rattle.inode_events.specs.NewestFirst.{newest_first}
 use Rattle.inode_events.specs.State.{metadata}
 use Rattle.inode_events.specs.declared.deed.Deed.{Deed}
 use Rattle.inode_events.specs.declared.told.Event.{Event}
-use Rattle.policy_cell.specs.Policy.{PolicyValue, in_force, rules_in}
+use Rattle.policy_cell.specs.Policy.{LooksAt, PolicyValue, in_force, rules_in}
 use Rattle.policy_cell.specs.declared.cell.RuleEntry.{RuleEntry}
 use Rattle.policy_rules.specs.RuleValue.{RuleValue}
 use Rattle.policy_rules.specs.declared.access.Super.{Super}
@@ -30,47 +30,13 @@ use Rattle.task_steps.specs.Checking.{IsChecked, check_by}
 use Rattle.task_steps.specs.declared.answers.StepResult.{StepResult}
 use Rattle.world_locks.proofs.Lists.{book_still}
 use Rattle.world_locks.proofs.WorldInodes.{world_inode_looked, world_inode_still}
-use Rattle.world_locks.specs.Tagged.{AskMet, LooksAt}
+use Rattle.world_locks.specs.Tagged.{AskMet}
 
 -- after a look the pass has seen at least as much as before
 looks_more : (rules rules2 : PolicyValue) (q q2 : Passed RuleEntry) → LooksAt rules rules2 q q2
     → IsPrefix q.seen q2.seen
 looks_more rules rules2 q q2 x =
     subst (λ (xs : List RuleEntry). IsPrefix q.seen xs) (sym (x.seen ∙ x.list.list)) x.before
-
--- ---- two looks, one after the other
-
-module _ (rules between rules2 : PolicyValue) (first first2 second second2 : Passed RuleEntry)
-    (one : LooksAt rules between first first2) (other : LooksAt between rules2 second second2) where
-  same : IsSameList rules.appended rules2.appended
-  same = record {
-    name = other.list.name ∙ one.list.name;
-    callers = other.list.callers ∙ one.list.callers;
-    list = other.list.list ∙ one.list.list;
-    numbers = other.list.numbers ∙ one.list.numbers;
-  }
-
-  -- the first is one at the rules as the second leaves them
-  pub looks_first : LooksAt rules rules2 first first2
-  looks_first = record {
-    base = other.base ∙ one.base;
-    list = same;
-    before = one.before;
-    seen = one.seen ∙ sym other.list.list;
-    mine = one.mine;
-    same = one.same;
-  }
-
-  -- the second is one at the rules as they were before the first
-  pub looks_second : LooksAt rules rules2 second second2
-  looks_second = record {
-    base = other.base ∙ one.base;
-    list = same;
-    before = subst (λ (xs : List RuleEntry). IsPrefix second.seen xs) one.list.list other.before;
-    seen = other.seen;
-    mine = other.mine;
-    same = other.same;
-  }
 
 -- ---- a check
 

@@ -1,7 +1,7 @@
 -- The values under locks as contracts see them, and their invariants with the constants.
 use Rattle.std.specs.Prelude.{◌≡◌, ℕ, ◌+◌, ◌∷◌, ◌++◌, [], length, List, Option, Some, IfOk, Result, Ok, Err, slice_get}
 use mathlib.Core.List.{IsPrefix}
-use Rattle.grow_list.specs.Shown.{Grown, IsSameList, Passed}
+use Rattle.grow_list.specs.Shown.{Grown, Passed}
 use Rattle.ima_templates.specs.declared.entry.Entry.{Entry}
 use Rattle.inode_meta.specs.declared.appraisal.Slot.{Slot}
 use Rattle.inode_meta.specs.declared.identity.Cred.{Cred}
@@ -120,12 +120,3 @@ pub record AppendMet (pass pass2 : Passed RuleEntry) (entry : RuleEntry) (a : St
   pub seen : pass2.seen ≡ added ++ entry ∷ []
   pub adds : Adds pass pass2 ((length added, entry) ∷ [])
   pub told : (a.place ≡ length added) × (a.told ≡ told.Done) × (a.action ≡ None)
-
--- a look of a pass at the appended rules, which leaves the rules as they were
-pub record LooksAt (rules rules2 : PolicyValue) (q q2 : Passed RuleEntry) : Type 0 where
-  pub base : rules2.base ≡ rules.base
-  pub list : IsSameList rules.appended rules2.appended
-  pub before : IsPrefix q.seen rules.appended.list
-  pub seen : q2.seen ≡ rules2.appended.list
-  pub mine : q2.mine ≡ q.mine
-  pub same : (q2.name ≡ q.name) × (q2.number ≡ q.number)

@@ -2,9 +2,9 @@
 //! names.
 
 ghost use Rattle.std.specs.Prelude.{◌≡◌, IfOk, OnErr};
-ghost use Rattle.policy_cell.specs.Policy.{in_force};
+ghost use Rattle.policy_cell.specs.Policy.{LooksAt, in_force};
 ghost use Rattle.world_close.specs.worlds.World.{AreRulesOf};
-ghost use Rattle.world_locks.specs.Tagged.{AppendMet, LooksAt, RulesKeep, appended_in};
+ghost use Rattle.world_locks.specs.Tagged.{AppendMet, RulesKeep, appended_in};
 
 use crate::name::Name;
 use grow_list::Pass;
@@ -106,8 +106,7 @@ impl<N: Name> TaggedRules<N> {
         ensures first { LooksAt self.old self.new first.old first.new }
         ensures second { LooksAt self.old self.new second.old second.new }
     {
-        self.rules.look(first);
-        self.rules.look(second);
+        self.rules.look_by_both(first, second);
     }
 }
 
