@@ -6,6 +6,8 @@ use Rattle.world_model.specs.inodes.answers.declared.answers.Piece.TheVariants a
 use Rattle.inode_events.specs.Integrity.{Collection}
 use Rattle.inode_events.specs.declared.deed.Deed.{Deed}
 use Rattle.inode_events.specs.declared.deed.Deed.TheVariants as deed
+use Rattle.task_steps.specs.declared.locking.DeedLocks.{DeedLocks}
+use Rattle.task_steps.specs.declared.locking.DeedLocks.TheVariants as locks
 use Rattle.world_model.specs.Tasks.{HasSummed, HasTakenIn}
 use Rattle.world_model.specs.declared.hash_state.HashState.{HashState}
 use Rattle.world_model.specs.declared.hash_state.HashState.TheVariants as hash_state
@@ -59,3 +61,15 @@ IsAloneDeed (deed.Check file func action rules) = ⊥
 IsAloneDeed (deed.Take file) = ⊥
 IsAloneDeed (deed.Finish file) = ⊥
 IsAloneDeed _ = Unit {0}
+
+-- the deed continues a collection by one page
+abbrev pub IsPageDeed : Deed → Type 0
+IsPageDeed (deed.Chunk file) = Unit {0}
+IsPageDeed (deed.CloseChunk file) = Unit {0}
+IsPageDeed _ = ⊥
+
+-- the deed needs these locks, and no others
+abbrev pub NeedsLocks : Deed → DeedLocks → Type 0
+NeedsLocks d locks.WithList = IsListedDeed d
+NeedsLocks d locks.Page = IsPageDeed d
+NeedsLocks d locks.Alone = IsAloneDeed d × (IsPageDeed d → ⊥)

@@ -1,6 +1,6 @@
 //! One step of a task on the lists of its world, and its effect on the run: a deed on one inode, or
-//! a check, which is borrowed together with whatever else it needs; its place in the lists; and the
-//! look at the lists before and after it.
+//! a check, which is borrowed together with whatever else it needs; its place in the lists; the look
+//! at the lists before and after it; and the locks that it needs where tasks share the lists.
 #![tactic(auto)]
 
 mod acting;
@@ -11,6 +11,7 @@ mod collecting;
 mod doing;
 mod gathering;
 mod listed;
+mod locking;
 mod looking;
 mod plain;
 
@@ -21,5 +22,6 @@ pub use checking::check_at;
 pub use doing::{Actor, look_and_apply, look_and_apply_alone, look_and_check};
 pub use gathering::gather;
 pub use listed::Checks;
+pub use locking::{DeedLocks, locks_of};
 pub use looking::look_at_inodes;
 pub use std::alloc::AllocError as OutOfMemory;

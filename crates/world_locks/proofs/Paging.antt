@@ -23,7 +23,7 @@ use Rattle.inode_meta.specs.declared.step.Who.{Who}
 use Rattle.inode_events.specs.pages.Content.{piece_at}
 use Rattle.inode_cell.specs.laws_of_journals.Own.{IsBy}
 use Rattle.task_steps.proofs.Hashing.{close_piece_left, piece_left}
-use Rattle.task_steps.specs.Hashed.{HasGathered}
+use Rattle.task_steps.specs.Hashed.{HasGathered, IsPageDeed}
 use Rattle.task_steps.specs.Leaving.{Leaves, told_by}
 use Rattle.world_close.specs.worlds.WorldConsts.{WorldConsts}
 use Rattle.world_close.specs.worlds.Tasks.{HashesBefore, HasTakenIn}
@@ -36,7 +36,7 @@ use Rattle.task_steps.specs.Acting.{IsPlacedAt, WorldInodeDid, WorldInodeDidAlon
 use Rattle.task_steps.specs.declared.answers.StepResult.{StepResult}
 use Rattle.world_locks.proofs.WorldInodes.{inode_same, its_pass}
 use Rattle.world_locks.specs.Tagged.{DeedMet, IsPassAt}
-use Rattle.world_locks.specs.Pages.{AloneMet, IsPageDeed, MayByLook, PageMet, taken_in}
+use Rattle.world_locks.specs.Pages.{AloneMet, MayByLook, PageMet, taken_in}
 use Rattle.world_locks.specs.declared.pages.TakenPage.{TakenPage}
 
 -- ---- the inode under its lock

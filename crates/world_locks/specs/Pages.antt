@@ -10,7 +10,6 @@ use Rattle.inode_events.specs.Legal.{May}
 use Rattle.inode_events.specs.NewestFirst.{newest_first}
 use Rattle.inode_events.specs.State.{content}
 use Rattle.inode_events.specs.declared.deed.Deed.{Deed}
-use Rattle.inode_events.specs.declared.deed.Deed.TheVariants as deed
 use Rattle.inode_events.specs.declared.told.Event.{Event}
 use Rattle.inode_events.specs.declared.told.Told.{Told}
 use Rattle.inode_meta.specs.declared.step.Who.{Who}
@@ -21,12 +20,6 @@ use Rattle.world_close.specs.worlds.WorldConsts.{InodeConsts, WorldConsts, inode
 use Rattle.world_close.specs.worlds.World.{IsWorldInode, WorldInodeValue}
 use Rattle.task_steps.specs.worlds.Ready.{HasLooked}
 use Rattle.world_locks.specs.declared.pages.TakenPage.{TakenPage}
-
--- the deed continues a collection by one page
-abbrev pub IsPageDeed : Deed → Type 0
-IsPageDeed (deed.Chunk file) = Unit {0}
-IsPageDeed (deed.CloseChunk file) = Unit {0}
-IsPageDeed _ = ⊥
 
 -- the page that was taken, with the place of its event
 abbrev pub taken_in : {E : Type 0} → ℕ → Result (Piece × List ℕ) E → Result TakenPage E

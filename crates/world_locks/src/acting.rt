@@ -7,9 +7,8 @@ ghost use Rattle.world_close.specs.worlds.Tasks.{ArePassesOf};
 ghost use Rattle.world_close.specs.worlds.declared.hash_state.HashState.{HashState as AnyHashState};
 ghost use Rattle.task_state.specs.Steps.{deed_in};
 ghost use Rattle.task_steps.specs.Acting.{ReadyAt};
-ghost use Rattle.task_steps.specs.Hashed.{IsAloneDeed, IsListedDeed};
+ghost use Rattle.task_steps.specs.Hashed.{IsAloneDeed, IsListedDeed, IsPageDeed};
 ghost use Rattle.world_locks.specs.Met.{CheckMet, EventMet};
-ghost use Rattle.world_locks.specs.Pages.{IsPageDeed};
 
 use crate::locks::Locks;
 use crate::name::Name;
@@ -18,7 +17,7 @@ use inode_cell::answers::piece_told;
 use std::alloc::AllocError as OutOfMemory;
 use std::sync::Wait;
 use task_state::DueDeed;
-use task_steps::{Actor, Checks, StepResult, gather};
+use task_steps::{Actor, Checks, DeedLocks, StepResult, gather, locks_of};
 use world_close::worlds::{HashState, Passes};
 
 impl<N: Name> Locks<N> {
@@ -42,14 +41,10 @@ impl<N: Name> Locks<N> {
         if i as usize >= self.world_inodes.len() {
             return Ok(None);
         }
-        match due {
-            DueDeed::Take(_) | DueDeed::Finish(_) => {
-                self.apply_with_list(rt, i, passes, actor, due, hash_state)
-            }
-            DueDeed::Chunk(_) | DueDeed::CloseChunk(_) => {
-                self.apply_page(rt, i, passes, actor, due, hash_state)
-            }
-            _ => self.apply_without_list(rt, i, passes, actor, due, hash_state),
+        match locks_of(due) {
+            DeedLocks::WithList => self.apply_with_list(rt, i, passes, actor, due, hash_state),
+            DeedLocks::Page => self.apply_page(rt, i, passes, actor, due, hash_state),
+            DeedLocks::Alone => self.apply_without_list(rt, i, passes, actor, due, hash_state),
         }
     }
 

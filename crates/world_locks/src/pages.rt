@@ -11,10 +11,11 @@ ghost use Rattle.inode_events.specs.Integrity.{Collection as AnyCollection, coll
 ghost use Rattle.inode_events.specs.NewestFirst.{newest_first};
 ghost use Rattle.inode_events.specs.State.{content};
 ghost use Rattle.inode_events.specs.pages.Content.{piece_at};
+ghost use Rattle.task_steps.specs.Hashed.{IsPageDeed};
 ghost use Rattle.task_steps.specs.Leaving.{Leaves, told_by};
 ghost use Rattle.task_steps.specs.worlds.Ready.{HasLooked};
 ghost use Rattle.task_state.specs.Steps.{deed_in};
-ghost use Rattle.world_locks.specs.Pages.{IsPageDeed, taken_in};
+ghost use Rattle.world_locks.specs.Pages.{taken_in};
 
 use grow_list::Pass;
 use inode_cell::{InodeCell, Piece};

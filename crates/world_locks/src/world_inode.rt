@@ -8,9 +8,9 @@ ghost use Rattle.inode_events.specs.Checks.{no_action};
 ghost use Rattle.world_close.specs.worlds.World.{IsWorldInode};
 ghost use Rattle.world_close.specs.worlds.declared.hash_state.HashState.{HashState as AnyHashState};
 ghost use Rattle.task_state.specs.Steps.{deed_in};
-ghost use Rattle.task_steps.specs.Hashed.{IsAloneDeed, IsListedDeed};
+ghost use Rattle.task_steps.specs.Hashed.{IsAloneDeed, IsListedDeed, IsPageDeed};
 ghost use Rattle.world_locks.specs.Tagged.{AskMet, DeedMet, IsPassAt, IsReadyBy};
-ghost use Rattle.world_locks.specs.Pages.{IsPageDeed, MayByLook, PageMet};
+ghost use Rattle.world_locks.specs.Pages.{MayByLook, PageMet};
 
 use crate::name::Name;
 use crate::pages::{TakenPage, take_page, taken_at};
