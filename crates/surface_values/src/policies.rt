@@ -235,6 +235,17 @@ pub fn rules_look(cell: &mut policy_cell::PolicyCell, pass: &mut RulePass)
     policy_cell::PolicyCell::look(cell, pass)
 }
 
+pub fn rules_look_by_both(
+    cell: &mut policy_cell::PolicyCell,
+    first: &mut RulePass,
+    second: &mut RulePass,
+)
+    requires first { first.old.name ≡ cell.old.appended.name }
+    requires second { second.old.name ≡ cell.old.appended.name }
+{
+    policy_cell::PolicyCell::look_by_both(cell, first, second)
+}
+
 pub fn rules_in_force(cell: &policy_cell::PolicyCell) -> &rule_match::Index {
     policy_cell::PolicyCell::rules(cell)
 }
