@@ -19,12 +19,14 @@ returns g c =
     let read : script_of input ≡ Ok c.in_ok-script.script =
     ap script_of (sym c.deref.ensures.value) ∙ c.in_ok-script.ensures.1 in
     let fits = run_refuses input ∙ ap script_refusal (sym c.deref.ensures.value)
-    ∙ c.in_ok-script.ensures.0 in
-    (fits, of_read (λ s. IsReport s c.in_ok-answer.answer.stuck c.in_ok-answer.answer.output)
-    (script_of input) c.in_ok-script.script read
-    (record {
-      ended = c.in_ok-ended.ended;
-      has_run = c.in_ok-ended.ensures;
-      is_stuck = sym c.in_ok-answer.ensures.stuck;
-      report = c.in_ok-answer.ensures.output;
-    }))
+    ∙ c.in_ok-script.ensures.0 in (
+      fits,
+      of_read (λ s. IsReport s c.in_ok-answer.answer.stuck c.in_ok-answer.answer.output)
+          (script_of input) c.in_ok-script.script read
+          (record {
+            ended = c.in_ok-ended.ended;
+            has_run = c.in_ok-ended.ensures;
+            is_stuck = sym c.in_ok-answer.ensures.stuck;
+            report = c.in_ok-answer.ensures.output;
+          }),
+    )
