@@ -1,6 +1,6 @@
 //! Buffers of critical data: the run that measures the buffers of a text (`buffer_text`) into one
 //! list (the kernel's `ima_measure_critical_data`), and its print. The callers run side by side on
-//! threads. Which buffers are measured, and as which entries, says `buffer_entries`; its [`wanted`]
+//! threads. `buffer_entries` says which buffers are measured, and as which entries; its [`wanted`]
 //! is an item of this crate too.
 #![tactic(auto)]
 

@@ -14,9 +14,9 @@ use std::{mem, thread};
 // The words of a line beside the value rarely take more bytes.
 const MOST_OTHER: usize = 192;
 
-/// Prints the entries as lines of `ascii_runtime_measurements`. The list is consumed: it is cut into
-/// at most `threads` parts, and the lines of each are made on a thread of its own if one can be
-/// created, which then frees the part's entries.
+/// Prints the entries as lines of `ascii_runtime_measurements`. The list is consumed: it is cut
+/// into at most `threads` parts, and the lines of each are made on a thread of its own if one can
+/// be created, which then frees the part's entries.
 pub fn push_lines<R: Threads + Sync>(
     rt: &R,
     alloc: Global,

@@ -101,8 +101,8 @@ impl Entry {
         }
     }
 
-    /// The values by which the entry extends its register in the SHA-1 bank and in the SHA-256 bank:
-    /// the bank's template digest, or 0xff bytes for a violation.
+    /// The values by which the entry extends its register in the SHA-1 bank and in the SHA-256
+    /// bank: the bank's template digest, or 0xff bytes for a violation.
     pub fn extension(&self) -> ([u8; 20], [u8; 32])
         ensures sha1 { result.0 ≡ extension self.now Sha1 }
         ensures sha256 { result.1 ≡ extension self.now Sha256 }

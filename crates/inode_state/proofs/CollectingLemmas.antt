@@ -1,13 +1,13 @@
 -- The open collection after one more event.
-use Rattle.std.proofs.Common.{◌≡◌, ℕ, suc, ◌+◌, ◌≤◌, Bool, true, false, cond, List, [], ◌∷◌, length, Option, Some, None, refl, sym, ◌∙◌, ap, subst, arith}
+use Rattle.std.proofs.Common.{◌≡◌, ℕ, suc, ◌+◌, ◌≤◌, Bool, true, false, List, [], ◌∷◌, length, Option, Some, None, refl, sym, ◌∙◌, ap, subst, arith}
 use Rattle.std.specs.Prelude.{◌==◌, is_none}
-use Rattle.std.proofs.lemmas.Bool.{cond-false, eqb-true, eq-eqb}
+use Rattle.std.proofs.lemmas.Bool.{cond-false, eqb-true}
 use Rattle.std.proofs.lemmas.Option.{same_Some}
 use Rattle.hash_algos.specs.declared.algo.Algo.{Algo}
 use Rattle.inode_meta.specs.declared.step.Who.{Who}
-use Rattle.inode_events.specs.Checks.{Check, check_after, last_check}
+use Rattle.inode_events.specs.Checks.{Check, last_check}
 use Rattle.inode_events.specs.Inode.{Inode}
-use Rattle.inode_events.specs.Integrity.{Collection, collected_more, collecting, collecting_after, integrity}
+use Rattle.inode_events.specs.Integrity.{Collection, collected_more, collecting}
 use Rattle.inode_events.specs.Legal.{EachFollows, Follows}
 use Rattle.inode_events.specs.Stage.{is_collecting, may_check, stage}
 use Rattle.inode_events.specs.State.{content}
@@ -21,7 +21,7 @@ use Rattle.journal_laws.proofs.Stages.{StageIs, Stages, stage_busy, stages}
 use Rattle.inode_events.specs.policy.declared.access.Action.{Action}
 use Rattle.inode_events.specs.policy.declared.rule.Func.{Func}
 use Rattle.inode_events.specs.Stage.{Stage, Gone, Counted, Asked as AskedStage, Collecting as CollectingStage, Collected, Settled, CloseCollecting, CloseCollected}
-use Rattle.inode_state.specs.Collecting.{Asks, Chooses, HasAsked, IfAsked, IsAsked, Short, collecting_next, more_seen, pieces_taken, short_of, short_seen, shortened, shorts_seen}
+use Rattle.inode_state.specs.Collecting.{Asks, Chooses, HasAsked, IfAsked, Short, collecting_next, more_seen, pieces_taken, short_of, short_seen, shortened, shorts_seen}
 use Rattle.inode_state.specs.declared.collecting.Asked.{Asked}
 use Rattle.inode_state.specs.declared.collecting.Collecting.{Collecting}
 

@@ -1,5 +1,5 @@
 -- The verdicts in force, compared with the journal's definition.
-use Rattle.std.specs.Prelude.{◌≡◌, Bool, true, false, List, [], ◌∷◌, ◌++◌, Option, Some, None, find, is_some, if◌then◌else◌}
+use Rattle.std.specs.Prelude.{◌≡◌, Bool, true, List, [], ◌∷◌, ◌++◌, Option, Some, None, find, is_some, if◌then◌else◌}
 use Rattle.std.specs.Option.{option_map}
 use Rattle.inode_events.specs.Inode.{Inode}
 use Rattle.inode_events.specs.Verdicts as journal

@@ -1,6 +1,6 @@
 -- A file that is held as an execution is undisturbed, from its count to its close: its count is
 -- refused if there is a writer, and while it is held every open for writing is refused.
-use Rattle.std.proofs.Common.{◌≡◌, ℕ, ◌+◌, ◌<◌, ◌≤◌, Bool, true, false, ◌&&◌, ◌||◌, not, cond, List, [], ◌∷◌, ◌++◌, length, Option, Some, None, refl, sym, ◌∙◌, ap, subst, arith, inl, inr, length-append}
+use Rattle.std.proofs.Common.{◌≡◌, ℕ, ◌<◌, ◌≤◌, Bool, true, false, ◌&&◌, ◌||◌, not, cond, List, [], ◌∷◌, ◌++◌, length, Option, Some, None, refl, sym, ◌∙◌, ap, subst, arith, inl, inr, length-append}
 use Rattle.std.specs.Prelude.{◌⊎◌, ◌==◌, All, nat_lt, option_map}
 use Rattle.std.proofs.lemmas.Bool.{cond-true, eq-eqb, ltb-false}
 use Rattle.std.proofs.lemmas.Option.{none-some, same_Some}

@@ -1,7 +1,7 @@
 -- Runs of two tasks that aren't served, each for one reason: an event is missing, an event belongs
 -- to no task, an event has the wrong Who, a check has the wrong action, or a check counts fewer
 -- rules than its task appended.
-use Rattle.std.proofs.Common.{◌≡◌, ℕ, ◌+◌, ◌≤◌, true, false, List, [], ◌∷◌, ◌++◌, Option, Some, None, refl, ap, subst, sym, ◌∙◌, inl, inr, arith, max}
+use Rattle.std.proofs.Common.{◌≡◌, ℕ, ◌+◌, ◌≤◌, true, false, List, [], ◌∷◌, ◌++◌, Some, None, refl, ap, subst, sym, ◌∙◌, inl, inr, arith, max}
 use Rattle.std.specs.Prelude.{◌⊎◌, All, take, slice_get}
 use Rattle.std.proofs.lemmas.List.{append-nil}
 use Rattle.std.proofs.lemmas.List.Elements.{All-contains}
@@ -10,10 +10,8 @@ use mathlib.Core.List.{IsPrefix}
 use Rattle.policy_cell.proofs.about_growing.Prefixes.{prefix_append, prefix_get, prefix_refl, prefix_trans}
 use Rattle.inode_meta.specs.declared.appraisal.Mode.{Mode}
 use Rattle.inode_meta.specs.declared.appraisal.Mode.TheVariants.{Off}
-use Rattle.inode_meta.specs.declared.identity.Cred.{Cred}
 use Rattle.inode_meta.specs.declared.step.Who.{Who}
 use Rattle.call_steps.specs.templates.Entries.{violation_of}
-use Rattle.call_steps.specs.templates.declared.entry.Entry.{Entry}
 use Rattle.call_steps.specs.templates.declared.entry.Placed.TheVariants.{Added}
 use Rattle.call_steps.specs.hashes.declared.algo.Algo.TheVariants.{Sha256}
 use Rattle.inode_meta.specs.declared.measurement.Template.TheVariants.{ImaNg}
@@ -27,16 +25,14 @@ use Rattle.call_steps.specs.events.declared.deed.Deed.{Deed}
 use Rattle.call_steps.specs.events.declared.deed.Deed.TheVariants as deed
 use Rattle.call_steps.specs.events.declared.deed.How.TheVariants as how
 use Rattle.call_steps.specs.events.declared.told.Event.{Event}
-use Rattle.call_steps.specs.events.declared.told.Told.{Told}
 use Rattle.call_steps.specs.events.declared.told.Told.TheVariants as told
 use Rattle.call_steps.specs.declared.call.Call.TheVariants as call
 use Rattle.call_steps.specs.declared.held.Name.TheVariants.{Descriptor}
-use Rattle.call_steps.specs.declared.reply.Reply.{Reply}
 use Rattle.call_steps.specs.declared.reply.Reply.TheVariants as reply
 use Rattle.policy_cell.specs.declared.cell.RuleEntry.{RuleEntry}
-use Rattle.run_model.specs.History.{Answer, Position, event_in, own, plain_answer, position, step_at, who_at}
-use Rattle.run_model.specs.Scene.{Program, Scene, ScriptFile, decided, mode_of}
-use Rattle.run_model.specs.Served.{AreSuited, IsDecided, IsServed, Run, Served, final_rules}
+use Rattle.run_model.specs.History.{Answer, Position, event_in, own, position, step_at, who_at}
+use Rattle.run_model.specs.Scene.{Program, Scene, decided}
+use Rattle.run_model.specs.Served.{AreSuited, IsDecided, IsServed, Run, Served}
 use Rattle.run_model.proofs.Rows.{boot, did, entry, has_opened, has_written, measure, opened, reading, root, rule, scene_with, script_file, two, who, writing}
 
 -- ---- the first answers of a history

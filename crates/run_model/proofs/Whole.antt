@@ -1,21 +1,18 @@
 -- The two runs, unconditionally: the file's entry isn't the boot aggregate, whatever its digest.
-use Rattle.std.proofs.Common.{◌≡◌, ℕ, Bool, true, false, List, [], ◌∷◌, Option, Some, None, refl, ap, sym, subst, ◌∙◌, lit<, arith}
-use Rattle.std.specs.Prelude.{◌≤◌, ◌&&◌, nat_le, All}
+use Rattle.std.proofs.Common.{◌≡◌, ℕ, Bool, true, false, List, [], ◌∷◌, None, refl, ap, sym, lit<, arith}
+use Rattle.std.specs.Prelude.{◌&&◌, nat_le, All}
 use Rattle.std.proofs.lemmas.Bool.{and_parts, leb-true}
 use Rattle.std.proofs.lemmas.List.Elements.{All-cons, All-nil}
 use Rattle.call_steps.specs.hashes.declared.algo.Algo.TheVariants.{Sha256}
 use Rattle.call_steps.proofs.about_hashes.HashLemmas.{length-hash}
-use Rattle.call_steps.specs.templates.Entries.{violation_of}
 use Rattle.call_steps.specs.templates.IsEntry.{IsEntry}
 use Rattle.call_steps.specs.templates.Path.{IsGraphic}
 use Rattle.call_steps.specs.templates.Same.{place_of_same, same}
-use Rattle.call_steps.specs.templates.declared.entry.Entry.{Entry}
 use Rattle.call_steps.proofs.about_templates.SameLemmas.{same_data-fields}
-use Rattle.inode_meta.specs.declared.measurement.Template.TheVariants.{ImaNg}
 use Rattle.call_steps.specs.declared.ending.Ending.TheVariants as ending
 use Rattle.run_model.specs.Rounds.{IsRunOf}
 use Rattle.run_model.specs.Turns.{run_at, start_of, turns_of}
-use Rattle.run_model.proofs.Rows.{boot, entry, has_opened, has_written, image, met, moment, one, one_end, one_is_run, one_run, one_runs, script_file, two, two_end, two_run}
+use Rattle.run_model.proofs.Rows.{boot, entry, image, one, one_end, one_is_run, one_run, one_runs, two, two_end, two_run}
 
 -- ---- which entries are the same
 

@@ -52,8 +52,8 @@ fn turn_all<G: Gate + Sync, R: Threads + Wait + Sync>(
 
 /// Runs the script, passing the gate before each step, and returns the state that the run leaves.
 /// The turns are those of the script's schedule, or rounds of all tasks until a round moves none of
-/// them. With `threads n` the tasks run on at most `n` threads, with their steps in any order, and then
-/// in rounds until none moves.
+/// them. With `threads n` the tasks run on at most `n` threads, with their steps in any order, and
+/// then in rounds until none moves.
 pub fn run<G: Gate + Sync, R: Threads + Wait + Sync>(
     rt: &R,
     alloc: Global,

@@ -64,8 +64,8 @@ impl Display for LineCause {
     }
 }
 
-/// The first bad line of a text, and why it is refused. The cause is of the grammar's own kind; most
-/// grammars have no other causes than [`LineCause`].
+/// The first bad line of a text, and why it is refused. The cause is of the grammar's own kind;
+/// most grammars have no other causes than [`LineCause`].
 #[derive(Clone, Copy, Debug, PartialEq, Eq)]
 pub struct Fault<C = LineCause> {
     /// The number of the line, counted from 1; skipped lines count too.

@@ -145,9 +145,9 @@ fn run_both<N: Name, G: Gate + Sync, R: Threads + Wait + Sync>(
     one.and(other)
 }
 
-/// Cuts the tasks into at most `n` parts, none longer than so many parts need, each of which runs in
-/// a thread of its own until a pass over its tasks moves none. If no thread can be created, the parts
-/// run one after another. Memory has run out if it has in one of them.
+/// Cuts the tasks into at most `n` parts, none longer than so many parts need, each of which runs
+/// in a thread of its own until a pass over its tasks moves none. If no thread can be created, the
+/// parts run one after another. Memory has run out if it has in one of them.
 pub(crate) fn run_parts<N: Name, G: Gate + Sync, R: Threads + Wait + Sync>(
     rt: &R,
     world: &Live<N>,

@@ -40,8 +40,8 @@ fn round<G: Gate>(world: &mut World, tasks: &mut Vec<Task>, gate: &G) -> Result<
 }
 
 /// Runs rounds of all tasks, until one moves none. If memory runs out, the tasks have made some
-/// rounds, each of which moved a task, and then some first turns of the next round, and the world is
-/// that of these turns. A run of 2^64 rounds counts as out of memory.
+/// rounds, each of which moved a task, and then some first turns of the next round, and the world
+/// is that of these turns. A run of 2^64 rounds counts as out of memory.
 pub fn run_rounds<G: Gate>(
     world: &mut World,
     tasks: &mut Vec<Task>,

@@ -36,10 +36,11 @@ fn run_shared<N: Name, G: Gate + Sync, R: Threads + Wait + Sync>(
 }
 
 /// Runs the tasks on at most `n` threads. The world is shared, and the tasks are cut into
-/// contiguous parts, none longer than `n` parts need, each of which makes steps of its tasks in turn
-/// until a pass over them moves none. Then the world is taken back, each task looks at it, and rounds of all tasks go on until
-/// one moves none. If memory runs out, the tasks have made some of their steps, and the world is
-/// dropped. A part of 2^64 passes counts as out of memory, as a run of 2^64 rounds does.
+/// contiguous parts, none longer than `n` parts need, each of which makes steps of its tasks in
+/// turn until a pass over them moves none. Then the world is taken back, each task looks at it, and
+/// rounds of all tasks go on until one moves none. If memory runs out, the tasks have made some of
+/// their steps, and the world is dropped. A part of 2^64 passes counts as out of memory, as a run
+/// of 2^64 rounds does.
 pub fn run_threads<N: Name, G: Gate + Sync, R: Threads + Wait + Sync>(
     rt: &R,
     world: World,

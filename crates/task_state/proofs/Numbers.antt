@@ -1,5 +1,5 @@
 -- The number of a step within its call.
-use Rattle.std.proofs.Common.{◌≡◌, ℕ, Bool, Option, None, Some, refl}
+use Rattle.std.proofs.Common.{◌≡◌, Bool, Option, None, Some, refl}
 use Rattle.std.specs.Prelude.{unwrap_or}
 use Rattle.run_model.specs.steps.CallState.{CallState, Progress, begun, number_of}
 use Rattle.run_model.specs.steps.declared.call.Call.{Call}

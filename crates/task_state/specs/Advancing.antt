@@ -1,5 +1,5 @@
 -- The effect of an outcome on the call in progress, and so on the task.
-use Rattle.std.specs.Prelude.{ℕ, ◌+◌, ◌++◌, List, Option, None, Some, if◌then◌else◌, option_to_list}
+use Rattle.std.specs.Prelude.{◌+◌, ◌++◌, List, Option, None, Some, if◌then◌else◌, option_to_list}
 use Rattle.run_model.specs.steps.CallState.{CallState, handles_left, is_done}
 use Rattle.run_model.specs.steps.declared.held.Handle.{Handle}
 use Rattle.run_model.specs.steps.declared.reply.Reply.{Reply}

@@ -1,5 +1,4 @@
 -- The steps and deeds that the task's own types stand for.
-use Rattle.std.specs.Prelude.{ℕ}
 use Rattle.run_model.specs.events.declared.deed.Deed.{Deed}
 use Rattle.run_model.specs.events.declared.deed.Deed.TheVariants as deed
 use Rattle.run_model.specs.steps.CallState as call_states

@@ -1,6 +1,6 @@
 //! One step of a task on the lists of its world, and its effect on the run: a deed on one inode, or
-//! a check, which is borrowed together with whatever else it needs; its place in the lists; the look
-//! at the lists before and after it; and the locks that it needs where tasks share the lists.
+//! a check, which is borrowed together with whatever else it needs; its place in the lists; the
+//! look at the lists before and after it; and the locks that it needs where tasks share the lists.
 #![tactic(auto)]
 
 mod acting;

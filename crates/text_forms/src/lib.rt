@@ -2,8 +2,8 @@
 //!
 //! A text consists of lines. A line consists of tokens separated by blanks ([`Tokens`]) or of words
 //! separated by single spaces ([`words`]). A number consists of digits ([`number_of`],
-//! [`short_number_of`]). What a word means can stand in a table ([`look_up`]). The definitions are in
-//! `specs/`, and the lemmas in `proofs/` show that printed text can be read back.
+//! [`short_number_of`]). What a word means can stand in a table ([`look_up`]). The definitions are
+//! in `specs/`, and the lemmas in `proofs/` show that printed text can be read back.
 #![tactic(auto)]
 
 mod file_system;

@@ -26,7 +26,7 @@ impl Cases {
         self.all &= holds && added;
     }
 
-    /// Memory ran out, so that not all cases hold.
+    /// To be called if memory ran out: not all cases hold then.
     pub fn fail(&mut self) {
         self.all = false;
     }

@@ -19,8 +19,8 @@ fn digest(algo: Algo, content: &[u8], abc: &[u8]) -> Digest {
     Digest::from_slice(algo, abc).unwrap_or(Digest::zeros(algo))
 }
 
-/// The entry of a file or buffer whose content is `abc`, or whose digest is zeros; none, if there is
-/// no such entry.
+/// The entry of a file or buffer whose content is `abc`, or whose digest is zeros; none, if there
+/// is no such entry.
 pub fn entry(
     alloc: Global,
     pcr: u8,

@@ -2,10 +2,10 @@
 //! `worked_cases/data/views`.
 //!
 //! The reports are those of `examples/`, except for `hostile.report`, whose names of files and
-//! attributes would be tags if they weren't escaped, `busy.report`, and `race_swapped.report`, which
-//! is that of `examples/race.script` with the schedule `0 0 1 0 0 0 1 1 0`. `bench/pages.py` compares
-//! the copies, and writes the stored pages anew; `bench/look` shows them. Each report is also cut
-//! after each of its bytes: what is left is refused with its first bad line.
+//! attributes would be tags if they weren't escaped, `busy.report`, and `race_swapped.report`,
+//! which is that of `examples/race.script` with the schedule `0 0 1 0 0 0 1 1 0`. `bench/pages.py`
+//! compares the copies, and writes the stored pages anew; `bench/look` shows them. Each report is
+//! also cut after each of its bytes: what is left is refused with its first bad line.
 #![tactic(auto)]
 
 mod answers;

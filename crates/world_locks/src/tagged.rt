@@ -1,5 +1,5 @@
-//! The measurement list and the semaphores, each with the invariant that it belongs to the constants
-//! that `N` names.
+//! The measurement list and the semaphores, each with the invariant that it belongs to the
+//! constants that `N` names.
 
 ghost use Rattle.std.specs.Prelude.{◌≡◌, ◌+◌};
 ghost use Rattle.world_close.specs.worlds.World.{AreSignalsOf, IsBookOf};

@@ -1,15 +1,14 @@
 -- A task with an open collection continues it.
-use Rattle.std.proofs.Common.{◌≡◌, ℕ, zero, suc, ◌+◌, ◌<◌, Bool, true, false, cond, List, [], ◌∷◌, ◌++◌, length, map, Option, Some, None, refl, sym, ◌∙◌, ap, subst, arith, inl, inr}
-use Rattle.std.specs.Prelude.{◌⊎◌, ◌==◌, All, Contains, reverse, unwrap_or}
+use Rattle.std.proofs.Common.{◌≡◌, ℕ, ◌+◌, Bool, true, false, cond, List, [], ◌∷◌, ◌++◌, map, Option, Some, None, refl, sym, ◌∙◌, ap, subst}
+use Rattle.std.specs.Prelude.{◌==◌, All, reverse, unwrap_or}
 use Rattle.std.proofs.lemmas.Bool.{eqb-true, eq-eqb}
 use Rattle.std.proofs.lemmas.List.{append-nil, reverse-append}
 use Rattle.std.proofs.lemmas.List.Elements.{All-nil, All-cons, All-head, All-tail, All-contains, Contains-append_right}
 use Rattle.std.proofs.lemmas.Option.{same_Some}
-use Rattle.grow_list.specs.Entries.{entries_from, entries_of}
+use Rattle.grow_list.specs.Entries.{entries_from}
 use Rattle.inode_meta.specs.declared.appraisal.Mode.{Mode}
 use Rattle.inode_meta.specs.declared.step.Who.{Who}
 use Rattle.inode_events.specs.policy.declared.access.Action.{Action}
-use Rattle.inode_events.specs.policy.declared.rule.Func.{Func}
 use Rattle.inode_events.specs.Callers.{caller_of}
 use Rattle.inode_events.specs.Checks.{asks}
 use Rattle.inode_events.specs.Inode.{Inode}
@@ -17,7 +16,7 @@ use Rattle.inode_events.specs.Integrity.{Collection, collecting}
 use Rattle.inode_events.specs.Files.{writers}
 use Rattle.inode_events.specs.Legal.{EachFollows, Follows}
 use Rattle.inode_events.specs.NewestFirst.{newest_first}
-use Rattle.inode_events.specs.Says.{close_finish_told, finish_told, says, placed_in}
+use Rattle.inode_events.specs.Says.{close_finish_told, finish_told, placed_in}
 use Rattle.inode_events.specs.templates.declared.entry.Placed.{Placed}
 use Rattle.inode_events.specs.declared.deed.Deed.{Deed}
 use Rattle.inode_events.specs.declared.deed.Deed.TheVariants as deed
@@ -25,25 +24,21 @@ use Rattle.inode_events.specs.declared.deed.How.{How}
 use Rattle.inode_events.specs.declared.told.Event.{Event}
 use Rattle.inode_events.specs.declared.told.Told.{Told}
 use Rattle.inode_events.specs.declared.told.Told.TheVariants as told
-use Rattle.call_steps.specs.CallState.{CallState, Progress, Step, ask_of, begun, deed_of, file_after, moved, plain_step, progress_of, step_by}
+use Rattle.call_steps.specs.CallState.{CallState, Progress, Step, ask_of, begun, deed_of, moved, plain_step, progress_of, step_by}
 use Rattle.call_steps.specs.CallState.{Nothing, Does, Checks, Signals, Appends}
-use Rattle.call_steps.specs.Steps.{course_of, next, next_by}
+use Rattle.call_steps.specs.Steps.{course_of, next_by}
 use Rattle.call_steps.specs.declared.ask.Ask.{Ask}
 use Rattle.call_steps.specs.declared.ask.Ask.TheVariants as ask
 use Rattle.call_steps.specs.declared.call.Call.{Call}
 use Rattle.call_steps.specs.declared.call.Call.TheVariants as call
 use Rattle.call_steps.specs.declared.reply.Reply.{Reply}
-use Rattle.run_model.specs.History.{Answer, Position, call_at, event, event_in, own, position, position_with, resume_in, step_at, step_in, who_at}
+use Rattle.run_model.specs.History.{Answer, Position, call_at, event, event_in, own, position, resume_in, step_at, step_in, who_at}
 use Rattle.run_model.specs.Scene.{Program}
-use Rattle.run_model.specs.Served.{events_of}
 use Rattle.list_lemmas.proofs.Containing.{has_reverse}
 use Rattle.list_lemmas.proofs.Properties.{all_from, all_left}
 use Rattle.run_laws.specs.progress.Busy.{BusyOfHistory, finish_fits}
 use Rattle.run_laws.specs.progress.Resting.{GoesOn}
-use Rattle.inode_events.specs.Stage.{Asked, CloseCollected, CloseCollecting, Collected, Collecting, Counted, Gone, Settled, Stage, is_collecting, next_stage, stage_after, stage_in, touches}
-use Rattle.call_steps.specs.declared.due.Due.{Due}
-use Rattle.call_steps.specs.declared.due.Next.{Next}
-use Rattle.call_steps.specs.declared.due.Next.TheVariants.{On, Over}
+use Rattle.inode_events.specs.Stage.{Asked, CloseCollected, CloseCollecting, Collected, Collecting, Gone, Settled, Stage, is_collecting, next_stage, stage_after, stage_in, touches}
 
 -- ---- legal events
 

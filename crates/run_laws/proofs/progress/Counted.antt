@@ -1,17 +1,15 @@
 -- The posts and waits of a task, counted by its history and by its replies.
-use Rattle.std.proofs.Common.{◌≡◌, ℕ, zero, suc, ◌+◌, ◌<◌, ◌≤◌, Bool, true, false, cond, List, [], ◌∷◌, ◌++◌, length, map, Option, Some, None, refl, sym, ◌∙◌, ap, subst, arith, length-append}
-use Rattle.std.specs.Prelude.{◌==◌, slice_get, take, unwrap_or}
-use Rattle.std.proofs.lemmas.List.{append-nil, map-append}
+use Rattle.std.proofs.Common.{◌≡◌, ℕ, zero, suc, ◌+◌, ◌<◌, ◌≤◌, Bool, true, false, cond, List, [], ◌∷◌, ◌++◌, length, Option, Some, None, refl, sym, ◌∙◌, ap, subst, arith, length-append}
+use Rattle.std.specs.Prelude.{slice_get, take, unwrap_or}
+use Rattle.std.proofs.lemmas.List.{append-nil}
 use Rattle.std.proofs.lemmas.Option.{same_Some, slice_get_within}
 use Rattle.inode_meta.specs.declared.appraisal.Mode.{Mode}
 use Rattle.inode_meta.specs.declared.step.Who.{Who}
-use Rattle.inode_events.specs.Semaphores.{posts, waits, is_post, is_wait}
+use Rattle.inode_events.specs.Semaphores.{is_post, is_wait}
 use Rattle.inode_events.specs.declared.deed.Deed.{Deed}
 use Rattle.inode_events.specs.declared.deed.Deed.TheVariants as deed
 use Rattle.inode_events.specs.declared.told.Event.{Event}
-use Rattle.inode_events.specs.declared.told.Told.{Told}
-use Rattle.call_steps.specs.CallState.{CallState, Progress, Step, after_of, ask_of, begun, fresh, handles_after, moved, plain_step, progress_of, step_by}
-use Rattle.call_steps.specs.CallState.{Nothing, Does, Checks, Signals, Appends}
+use Rattle.call_steps.specs.CallState.{Progress, ask_of, begun, handles_after, moved, plain_step, progress_of, step_by}
 use Rattle.call_steps.specs.Steps.{next}
 use Rattle.call_steps.specs.declared.ask.Ask.{Ask}
 use Rattle.call_steps.specs.declared.ask.Ask.TheVariants as ask
@@ -21,7 +19,7 @@ use Rattle.call_steps.specs.declared.held.Handle.{Handle}
 use Rattle.call_steps.specs.declared.reply.Reply.{Reply}
 use Rattle.call_steps.specs.declared.reply.Reply.TheVariants as reply
 use Rattle.run_model.specs.Ended.{how_many, posts_to, waits_for}
-use Rattle.run_model.specs.History.{Answer, Position, call_at, resume, resume_in, own_signals, signal_in, step_at, step_in, position, position_with, replied, who_at}
+use Rattle.run_model.specs.History.{Answer, Position, call_at, resume_in, own_signals, signal_in, step_in, position, position_with, who_at}
 use Rattle.run_model.specs.Scene.{Program}
 use Rattle.call_steps.specs.declared.due.Next.{Next}
 use Rattle.call_steps.specs.declared.due.Next.TheVariants.{On, Over}

@@ -1,11 +1,10 @@
 -- If no task moves, each is done or waits for a semaphore that is at 0.
-use Rattle.std.proofs.Common.{◌≡◌, ℕ, zero, suc, ◌+◌, ◌<◌, ◌≤◌, Bool, true, false, ◌&&◌, ◌||◌, not, cond, List, [], ◌∷◌, ◌++◌, length, Option, Some, None, refl, sym, ◌∙◌, ap, subst, arith, inl, inr}
-use Rattle.std.specs.Prelude.{◌==◌, ◌-◌, nat_lt, slice_get, unwrap_or}
+use Rattle.std.proofs.Common.{◌≡◌, ℕ, zero, suc, ◌≤◌, Bool, true, false, ◌&&◌, ◌||◌, not, cond, List, [], ◌∷◌, length, Option, Some, None, refl, sym, ◌∙◌, ap, subst, arith}
+use Rattle.std.specs.Prelude.{nat_lt, slice_get}
 use Rattle.std.proofs.lemmas.Bool.{and_from, eq-eqb, ltb-false, or_left, or_right}
 use Rattle.std.proofs.lemmas.Option.{same_Some, slice_get_within}
-use Rattle.inode_events.specs.templates.declared.entry.Entry.{Entry}
 use Rattle.inode_events.specs.templates.declared.entry.Placed.{Placed}
-use Rattle.inode_events.specs.Asked.{asked, outcome, placed_for}
+use Rattle.inode_events.specs.Asked.{asked, placed_for}
 use Rattle.inode_events.specs.Inode.{Inode}
 use Rattle.inode_events.specs.Integrity.{Collection, collecting, in_force}
 use Rattle.inode_events.specs.Legal.{EachFollows, May}
@@ -21,24 +20,24 @@ use Rattle.inode_events.specs.declared.told.Told.{Told}
 use Rattle.inode_events.specs.declared.told.Told.TheVariants as told
 use Rattle.inode_events.specs.policy.declared.rule.Func.{Func}
 use Rattle.journal_laws.proofs.Stages.{Collects, stages}
-use Rattle.call_steps.specs.CallState.{CallState, Progress, Step, ask_of, plain_step, progress_of, step_by}
+use Rattle.call_steps.specs.CallState.{Progress, Step, ask_of, plain_step, progress_of, step_by}
 use Rattle.call_steps.specs.CallState.{Nothing, Does, Checks, Signals, Appends}
 use Rattle.call_steps.specs.declared.ask.Ask.{Ask}
 use Rattle.call_steps.specs.declared.ask.Ask.TheVariants as ask
 use Rattle.call_steps.specs.declared.call.Call.{Call}
 use Rattle.call_steps.specs.declared.call.Call.TheVariants as call
-use Rattle.run_model.specs.Ended.{all_done, all_wait, is_done, is_stuck, left, posted, posts_to, waited, waits_in_vain}
+use Rattle.run_model.specs.Ended.{all_done, all_wait, is_done, left, posted, posts_to, waited, waits_in_vain}
 use Rattle.run_model.specs.History.{Position, call_at, own_signals, step_at, step_in}
-use Rattle.run_model.specs.Rounds.{is_moved, moves}
+use Rattle.run_model.specs.Rounds.{is_moved}
 use Rattle.run_model.specs.Scene.{Program, Scene, ScriptFile, inode_of, mode_of}
 use Rattle.run_model.specs.Turns.{Moment, State, step_check, step_due, step_task, turn_of}
 use Rattle.inode_events.specs.Semaphores.{semaphore_says}
-use Rattle.run_laws.specs.progress.Resting.{AtRest, EndsAtRest, IsReached, MayStep, PaidWhenReached, Resting}
+use Rattle.run_laws.specs.progress.Resting.{AtRest, EndsAtRest, MayStep, PaidWhenReached, Resting}
 use Rattle.run_laws.proofs.progress.Counted.{Fits, history_fits, posts_agree, signal_of}
 use Rattle.run_laws.proofs.progress.Free.{does_turn, moves_is, no_collection}
 use Rattle.inode_events.proofs.Paid.{paid}
 use Rattle.run_laws.proofs.progress.Totals.{count_past, counted, counted_when_reached}
-use Rattle.inode_events.specs.Stage.{Stage, is_collecting, stage}
+use Rattle.inode_events.specs.Stage.{is_collecting}
 
 both_ways : (b : Bool) → b ≡ true → b ≡ false → ⊥
 both_ways true x y = absurd (cc)

@@ -1,19 +1,17 @@
 -- If no task moves, no collection is open.
-use Rattle.std.proofs.Common.{◌≡◌, ℕ, zero, suc, ◌+◌, ◌<◌, ◌≤◌, Bool, true, false, cond, List, [], ◌∷◌, ◌++◌, length, Option, Some, None, refl, sym, ◌∙◌, ap, subst, arith, inl, inr}
-use Rattle.std.specs.Prelude.{◌⊎◌, ◌==◌, All, reverse, slice_get, option_map, unwrap_or}
-use Rattle.std.proofs.lemmas.Bool.{eqb-true, eq-eqb, ne_eqb}
+use Rattle.std.proofs.Common.{◌≡◌, ℕ, zero, suc, ◌+◌, ◌<◌, ◌≤◌, Bool, true, false, cond, List, [], ◌∷◌, length, Option, Some, None, refl, sym, ◌∙◌, ap, subst, arith}
+use Rattle.std.specs.Prelude.{◌==◌, All, reverse, slice_get, option_map}
+use Rattle.std.proofs.lemmas.Bool.{eq-eqb, ne_eqb}
 use Rattle.std.proofs.lemmas.List.Elements.{All-head, All-tail}
 use Rattle.std.proofs.lemmas.Option.{get_or_from_slice_get, same_Some}
-use Rattle.inode_events.specs.templates.declared.entry.Entry.{Entry}
 use Rattle.inode_events.specs.templates.declared.entry.Placed.{Placed}
 use Rattle.inode_meta.specs.declared.step.Who.{Who}
 use Rattle.inode_events.specs.Asked.{asked, outcome, placed_for}
 use Rattle.inode_events.specs.Callers.{caller_in, caller_of}
 use Rattle.inode_events.specs.Inode.{Inode}
 use Rattle.inode_events.specs.Integrity.{Collection, collecting}
-use Rattle.inode_events.specs.Legal.{EachFollows, May}
 use Rattle.inode_events.specs.NewestFirst.{newest_first}
-use Rattle.inode_events.specs.Says.{chunk_told, finish_told, says, unless_collecting}
+use Rattle.inode_events.specs.Says.{chunk_told, finish_told, says}
 use Rattle.inode_events.specs.State.{content}
 use Rattle.inode_events.specs.declared.deed.Deed.{Deed}
 use Rattle.inode_events.specs.declared.deed.Deed.TheVariants as deed
@@ -21,18 +19,18 @@ use Rattle.inode_events.specs.declared.told.Event.{Event}
 use Rattle.inode_events.specs.declared.told.Told.{Told}
 use Rattle.journal_laws.proofs.Lives.{lives}
 use Rattle.journal_laws.proofs.Small.{event}
-use Rattle.journal_laws.proofs.Stages.{Collects, StageIs, stage_busy, stages}
+use Rattle.journal_laws.proofs.Stages.{StageIs, stage_busy, stages}
 use Rattle.journal_laws.specs.Standing.{event_at}
 use Rattle.journal_laws.proofs.Bridge.{own_bridge}
 use Rattle.journal_laws.proofs.Owning.{stage_own}
 use Rattle.journal_laws.specs.Own.{counter, own_past}
 use Rattle.call_steps.specs.CallState.{Step}
-use Rattle.call_steps.specs.CallState.{Nothing, Does, Checks, Signals, Appends}
+use Rattle.call_steps.specs.CallState.{Does}
 use Rattle.run_model.specs.History.{Position, own, step_at}
 use Rattle.run_model.specs.Rounds.{is_moved, moves, moves_at}
 use Rattle.run_model.specs.Scene.{Program, Scene, ScriptFile, inode_of, mode_of}
-use Rattle.run_model.specs.Turns.{Moment, State, journal_at, step_does, step_due, step_task, turn_of}
-use Rattle.run_laws.specs.progress.Resting.{AreLegal, AtRest, GoesOn, Resting}
+use Rattle.run_model.specs.Turns.{Moment, State, step_does, step_due, step_task, turn_of}
+use Rattle.run_laws.specs.progress.Resting.{AtRest, GoesOn, Resting}
 use Rattle.run_laws.proofs.progress.Busy.{busy_goes}
 use Rattle.inode_events.specs.Stage.{Asked, CloseCollected, CloseCollecting, Collected, Collecting, Counted, Gone, Settled, Stage, is_collecting, is_gone, stage, stage_in}
 

@@ -1,12 +1,11 @@
 -- A turn that moves no task changes nothing.
-use Rattle.std.proofs.Common.{◌≡◌, ℕ, zero, suc, ◌+◌, ◌<◌, Bool, true, false, ◌||◌, cond, List, [], ◌∷◌, ◌++◌, length, get_or, Option, Some, None, refl, sym, ◌∙◌, ap, subst, arith, inl, inr}
-use Rattle.std.specs.Prelude.{◌⊎◌, Contains, slice_get, slice_set, unwrap_or}
-use Rattle.std.proofs.lemmas.Bool.{cases_eq, cases_order, or_parts}
+use Rattle.std.proofs.Common.{◌≡◌, ℕ, zero, suc, ◌<◌, false, List, [], ◌∷◌, ◌++◌, length, get_or, Option, Some, None, refl, sym, ◌∙◌, ap, subst, arith, inl, inr}
+use Rattle.std.specs.Prelude.{◌⊎◌, Contains, slice_get, slice_set}
+use Rattle.std.proofs.lemmas.Bool.{cases_order, or_parts}
 use Rattle.std.proofs.lemmas.List.{append-nil, set-get_or}
 use Rattle.std.proofs.lemmas.List.Elements.{Contains-append_left, Contains-push}
-use Rattle.std.proofs.lemmas.Option.{get_or_from_slice_get, unwrap_or-slice_get}
+use Rattle.std.proofs.lemmas.Option.{get_or_from_slice_get}
 use Rattle.inode_events.specs.templates.declared.entry.Entry.{Entry}
-use Rattle.inode_meta.specs.declared.step.Who.{Who}
 use Rattle.inode_events.specs.policy.declared.access.Action.{Action}
 use Rattle.inode_events.specs.policy.declared.rule.Func.{Func}
 use Rattle.inode_events.specs.Asked.{asked, list_after, outcome}
@@ -23,7 +22,7 @@ use Rattle.call_steps.specs.CallState.{Nothing, Does, Checks, Signals, Appends}
 use Rattle.run_model.specs.History.{Position, step_at, who_at}
 use Rattle.run_model.specs.Rounds.{any_moves, is_moved, moves, moves_at, numbers}
 use Rattle.run_model.specs.Scene.{Program, Scene, ScriptFile, decided, inode_of, mode_of, rules_with}
-use Rattle.run_model.specs.Turns.{Moment, State, Turned, journal_at, resume_told, state_on, step_check, step_does, step_due, step_event, step_signal, step_task, turn, turn_of, turned}
+use Rattle.run_model.specs.Turns.{Moment, State, Turned, journal_at, resume_told, state_on, step_check, step_does, step_due, step_signal, step_task, turn, turn_of, turned}
 use Rattle.run_laws.specs.progress.Resting.{RoundAtRest}
 use Rattle.list_lemmas.proofs.Containing.{has_cases, has_none}
 

@@ -1,25 +1,21 @@
 -- The posts and waits of all tasks add up to those of the list.
-use Rattle.std.proofs.Common.{◌≡◌, ℕ, zero, suc, ◌+◌, ◌<◌, ◌≤◌, Bool, true, false, cond, List, [], ◌∷◌, ◌++◌, length, map, Option, Some, None, refl, sym, ◌∙◌, ap, subst, arith, inl, inr}
-use Rattle.std.specs.Prelude.{◌⊎◌, ◌==◌, ◌-◌, All, nat_lt, reverse, slice_get, take}
-use Rattle.std.proofs.lemmas.Bool.{ne_eqb, eq-eqb, eqb-true, cases_eq, cases_order, cond-false, ltb-true, ltb-false}
+use Rattle.std.proofs.Common.{◌≡◌, ℕ, zero, suc, ◌+◌, ◌<◌, ◌≤◌, Bool, true, false, cond, List, [], ◌∷◌, ◌++◌, length, map, Some, refl, sym, ◌∙◌, ap, subst, arith, inl, inr}
+use Rattle.std.specs.Prelude.{◌⊎◌, ◌==◌, All, reverse, slice_get, take}
+use Rattle.std.proofs.lemmas.Bool.{ne_eqb, eq-eqb, cases_eq, cases_order, cond-false}
 use Rattle.std.proofs.lemmas.List.{reverse-append}
 use Rattle.std.proofs.lemmas.List.Elements.{All-head, All-tail}
 use Rattle.grow_list.specs.Entries.{entries_from}
 use Rattle.inode_events.specs.Callers.{caller_of}
 use Rattle.inode_events.specs.NewestFirst.{newest_first}
-use Rattle.inode_events.specs.Semaphores.{LegalSemaphores, left, is_post, is_wait, posts, semaphore_says, waits}
+use Rattle.inode_events.specs.Semaphores.{is_post, is_wait, posts, waits}
 use Rattle.inode_events.specs.declared.deed.Deed.{Deed}
-use Rattle.inode_events.specs.declared.deed.Deed.TheVariants as deed
 use Rattle.inode_events.specs.declared.told.Event.{Event}
-use Rattle.inode_events.specs.declared.told.Told.{Told}
-use Rattle.inode_events.specs.declared.told.Told.TheVariants as told
 use Rattle.call_steps.specs.declared.call.Call.{Call}
-use Rattle.run_model.specs.Ended.{answered, answered_by, how_many, posted, posts_to, waited, waits_for}
-use Rattle.run_model.specs.History.{Answer, Position, own_signals, position}
-use Rattle.run_model.specs.Served.{events_of}
+use Rattle.run_model.specs.Ended.{answered, answered_by, how_many, posts_to, waits_for}
+use Rattle.run_model.specs.History.{Position, own_signals}
 use Rattle.run_model.specs.Scene.{Program, Scene, mode_of}
 use Rattle.run_model.specs.Turns.{Moment, State}
-use Rattle.run_laws.specs.progress.Resting.{AreLegal, IsReached, Resting, SignalsCounted, SignalsCountedWhenReached}
+use Rattle.run_laws.specs.progress.Resting.{IsReached, Resting, SignalsCounted, SignalsCountedWhenReached}
 use Rattle.run_laws.proofs.progress.Counted.{Agree, Fits, bit, history_fits, passing, posts_agree, waits_agree}
 
 -- the number of events that pass, and of one caller's events that pass

@@ -4,7 +4,7 @@ use Rattle.std.specs.Prelude.{All, reverse, slice_get, unwrap_or, ◌==◌, if�
 use Rattle.std.proofs.lemmas.List.{reverse-append, reverse-reverse}
 use Rattle.std.proofs.lemmas.List.Elements.{All-contains}
 use Rattle.std.proofs.lemmas.Option.{get_or_from_slice_get, none-some, same_Some, slice_get_past, slice_get_within}
-use Rattle.run_model.specs.growing.Shown.{Grown, Passed, no_name}
+use Rattle.run_model.specs.growing.Shown.{no_name}
 use Rattle.run_model.proofs.about_growing.Own.{own_has, slice_get-push}
 use Rattle.inode_meta.specs.declared.appraisal.Mode.{Mode}
 use Rattle.inode_meta.specs.declared.step.Who.{Who}
@@ -38,9 +38,8 @@ use Rattle.call_steps.specs.declared.reply.Reply.{Reply}
 use Rattle.call_steps.specs.declared.reply.Reply.TheVariants as reply
 use Rattle.run_model.specs.History.{Answer, Position, call_at, event, event_in, own, position, position_with, resume_in, step_at, step_in, who_at, who_in}
 use Rattle.run_model.specs.Scene.{Program, Scene, mode_of}
-use Rattle.run_model.specs.Served.{IsServed, Run, Served, events_of}
+use Rattle.run_model.specs.Served.{IsServed, Run, events_of}
 use Rattle.run_laws.specs.shown.Laws.{ShownIsDenied}
-use Rattle.run_laws.specs.shown.Places.{Stood}
 
 -- ---- lists
 

@@ -1,12 +1,12 @@
 -- The laws of journals at each place of a shown run.
-use Rattle.std.proofs.Common.{◌≡◌, ℕ, zero, suc, List, [], ◌∷◌, Option, Some, None, refl, sym, ◌∙◌, ap, subst, arith}
+use Rattle.std.proofs.Common.{◌≡◌, ℕ, zero, suc, List, [], ◌∷◌, Some, sym, ◌∙◌, ap, subst}
 use Rattle.std.specs.Prelude.{All, slice_get}
 use Rattle.std.proofs.lemmas.List.Elements.{All-contains, All-head, All-tail}
 use Rattle.std.proofs.lemmas.Option.{get_or_from_slice_get, same_Some, slice_get_within}
 use Rattle.ima_templates.specs.Path.{IsMeasuredPath}
 use Rattle.inode_meta.specs.declared.measurement.Template.TheVariants.{Ima}
 use Rattle.inode_events.specs.Inode.{Inode}
-use Rattle.inode_events.specs.Legal.{EachFollows, IsBorn, Legal}
+use Rattle.inode_events.specs.Legal.{EachFollows, Legal}
 use Rattle.inode_events.specs.Listing.{IsListed}
 use Rattle.inode_events.specs.Merged.{Journal}
 use Rattle.inode_events.specs.Integrity.{attributes, label, label_in, labelled_with}

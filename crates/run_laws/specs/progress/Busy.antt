@@ -1,5 +1,5 @@
 -- A task with an open collection continues it.
-use Rattle.std.specs.Prelude.{◌≡◌, ℕ, Bool, true, false, List, reverse, Option, Some}
+use Rattle.std.specs.Prelude.{◌≡◌, ℕ, Bool, true, false, List, reverse, Some}
 use Rattle.inode_meta.specs.declared.appraisal.Mode.{Mode}
 use Rattle.inode_events.specs.Inode.{Inode}
 use Rattle.inode_events.specs.Legal.{EachFollows}
@@ -9,7 +9,6 @@ use Rattle.inode_events.specs.declared.deed.Deed.TheVariants as deed
 use Rattle.inode_events.specs.declared.told.Event.{Event}
 use Rattle.inode_events.specs.declared.told.Told.{Told}
 use Rattle.inode_events.specs.declared.told.Told.TheVariants as told
-use Rattle.call_steps.specs.CallState.{Step}
 use Rattle.call_steps.specs.CallState.{Does}
 use Rattle.run_model.specs.History.{Answer, own, position, step_at}
 use Rattle.run_model.specs.Scene.{Program}

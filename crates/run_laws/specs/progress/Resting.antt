@@ -1,8 +1,6 @@
 -- Moments at which no task moves.
-use Rattle.std.specs.Prelude.{◌≡◌, ℕ, ◌+◌, ◌<◌, ◌≤◌, Bool, true, false, ◌||◌, All, List, [], ◌∷◌, length, reverse, Option, Some, None, slice_get}
-use Rattle.inode_meta.specs.declared.appraisal.Mode.{Mode}
+use Rattle.std.specs.Prelude.{◌≡◌, ℕ, ◌<◌, ◌≤◌, true, false, ◌||◌, All, List, length, Option, Some, slice_get}
 use Rattle.inode_events.specs.Callers.{caller_of}
-use Rattle.inode_events.specs.Inode.{Inode}
 use Rattle.inode_events.specs.Legal.{EachFollows, May}
 use Rattle.inode_events.specs.NewestFirst.{newest_first}
 use Rattle.inode_events.specs.Semaphores.{LegalSemaphores, posts, waits}
@@ -10,15 +8,14 @@ use Rattle.inode_events.specs.declared.deed.Deed.{Deed}
 use Rattle.inode_events.specs.declared.deed.Deed.TheVariants as deed
 use Rattle.inode_events.specs.declared.told.Event.{Event}
 use Rattle.call_steps.specs.CallState.{Step}
-use Rattle.call_steps.specs.CallState.{Nothing, Does, Checks, Signals, Appends}
+use Rattle.call_steps.specs.CallState.{Does, Checks}
 use Rattle.journal_laws.specs.Own.{IsOwned}
-use Rattle.run_model.specs.Ended.{all_done, how_many, is_stuck, posted, posts_to, waited, waits_for}
+use Rattle.run_model.specs.Ended.{all_done, is_stuck, posted, waited}
 use Rattle.run_model.specs.History.{Answer, Position, own, own_signals, position, step_at}
-use Rattle.run_model.specs.Rounds.{all_tasks, any_moves, is_moved, moves}
+use Rattle.run_model.specs.Rounds.{all_tasks, any_moves, moves}
 use Rattle.run_model.specs.Served.{events_of}
 use Rattle.run_model.specs.Scene.{Program, Scene, ScriptFile, inode_of, mode_of}
-use Rattle.run_model.specs.Turns.{Moment, State, step_task}
-use Rattle.inode_events.specs.Stage.{is_collecting, stage_in}
+use Rattle.run_model.specs.Turns.{Moment, State}
 
 -- the deed continues or ends the collection of the file
 abbrev pub GoesOn : ℕ → Deed → Type 0

@@ -1,5 +1,5 @@
 -- The first handle of the name is the one that is left out.
-use Rattle.std.proofs.Common.{◌≡◌, ℕ, suc, ◌<◌, Bool, true, cond, List, ◌∷◌, ◌++◌, length, get_or, take, drop, sym, ap, ◌∙◌, arith, drop-cons}
+use Rattle.std.proofs.Common.{◌≡◌, ℕ, suc, ◌<◌, Bool, true, cond, List, ◌∷◌, ◌++◌, length, get_or, take, drop, sym, ap, ◌∙◌, drop-cons}
 use Rattle.run_model.specs.steps.Handles.{same_name, without}
 use Rattle.run_model.specs.steps.declared.held.Handle.{Handle}
 use Rattle.run_model.specs.steps.declared.held.Name.{Name}

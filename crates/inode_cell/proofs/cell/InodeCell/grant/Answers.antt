@@ -2,10 +2,8 @@
 use Rattle.std.proofs.Common.{List, Some, sym, subst}
 use Rattle.std.proofs.lemmas.Result.{IfOk-weaker}
 use Rattle.ima_templates.specs.declared.entry.Entry.{Entry}
-use Rattle.inode_events.specs.Asked.{asked}
 use Rattle.inode_events.specs.Checks.{last_check}
 use Rattle.inode_events.specs.NewestFirst.{newest_first}
-use Rattle.inode_events.specs.declared.told.Grant.{Grant}
 use Rattle.inode_events.specs.declared.told.Told.TheVariants as told
 use Rattle.inode_cell.specs.Acts.{Acts}
 use Rattle.inode_cell.specs.Granting.{IsEntering}

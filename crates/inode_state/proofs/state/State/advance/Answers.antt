@@ -1,12 +1,11 @@
 use Rattle.std.proofs.Common.{◌≡◌, ℕ, List, ◌∷◌, length, Option, sym, ◌∙◌, ap, subst}
-use Rattle.inode_events.specs.Inode.{Inode}
-use Rattle.inode_events.specs.Integrity.{collecting, in_force}
-use Rattle.inode_events.specs.State.{metadata, metadata_after}
+use Rattle.inode_events.specs.Integrity.{in_force}
+use Rattle.inode_events.specs.State.{metadata_after}
 use Rattle.inode_events.specs.declared.told.Event.{Event}
 use Rattle.inode_meta.specs.declared.identity.Meta.{Meta}
-use Rattle.inode_state.specs.Collecting.{HasAsked, collecting_next, shortened, shorts_seen}
+use Rattle.inode_state.specs.Collecting.{HasAsked, collecting_next, shorts_seen}
 use Rattle.inode_state.specs.InForce.{in_force_after_lem, in_force_seen}
-use Rattle.inode_state.specs.Verdicts.{AreVerdicts, verdicts_after}
+use Rattle.inode_state.specs.Verdicts.{AreVerdicts}
 use Rattle.inode_state.specs.declared.collecting.Collecting.{Collecting}
 use Rattle.inode_state.specs.declared.in_force.InForce.{InForce}
 use Rattle.inode_state.specs.declared.verdicts.KeyedVerdict.{KeyedVerdict}

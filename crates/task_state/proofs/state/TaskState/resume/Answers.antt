@@ -1,6 +1,5 @@
 -- A call that is answered is one of the program's, whose number is small.
-use Rattle.std.proofs.Common.{◌≡◌, ◌<◌, length, Some, ap, subst, sym, arith}
-use Rattle.std.specs.Option.{OnSome}
+use Rattle.std.proofs.Common.{◌<◌, length, subst, sym, arith}
 use Rattle.task_state.specs.Value.{TaskValue}
 use Rattle.task_state.proofs.state.TaskState.resume.Goals as goal
 
