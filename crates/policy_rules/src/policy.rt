@@ -8,6 +8,8 @@ use std::marker::Model;
 /// The most rules that a policy may have.
 pub const RULES: usize = 1024;
 
+const _: () = prove!(RULES == 1024);
+
 /// A policy: at most 1,024 rules, in order. Contracts see the list of its rules.
 pub struct Policy {
     rules: Vec<Rule>,
