@@ -53,6 +53,9 @@ UNREAD = re.compile('is not in scope|has no field|is no name|operand is missing|
 STALE = re.compile(r'module .Rattle-(\w+)-.*Run the lower steps again')
 UNBUILT = re.compile(r'^rt: the library (\w+) did not build', re.M)
 
+# A constant with a false `prove!` is refused before anything is proved.
+FALSE = re.compile(r'error\[failed-constant-evaluation\]: evaluation reached a false `prove!`')
+
 
 class BadEdit(Exception):
     """Says why an edit cannot be applied."""
@@ -225,7 +228,8 @@ def why_unjudged(status, said, changed):
     line = unread(said, changed)
     if line:
         return 'a text cannot be read: %s' % line[:160]
-    if status != 1 or not re.search('^logic=not-proved', said, re.M):
+    is_refused = re.search('^logic=not-proved', said, re.M) or FALSE.search(said)
+    if status != 1 or not is_refused:
         last = said.strip().split('\n')[-1]
         return 'the check ended with status %d: %s' % (status, last[:160])
     return ''
