@@ -1,5 +1,5 @@
 -- What the code finds of an inode, under the names of the sights.
-use Rattle.std.proofs.Common.{◌≡◌, ℕ, List, Some, refl, ap, sym, subst, ◌∙◌, slice_get}
+use Rattle.std.proofs.Common.{◌≡◌, ℕ, List, Some, ap, subst, ◌∙◌, slice_get}
 use Rattle.inode_cell.specs.Value.{CellValue}
 use Rattle.inode_events.specs.EndedInode.{EndedInodeValue}
 use Rattle.inode_events.specs.templates.declared.entry.Entry.{Entry}

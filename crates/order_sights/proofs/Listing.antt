@@ -1,5 +1,5 @@
 -- Grants that report the same entries have shown the same bytes.
-use Rattle.std.proofs.Common.{◌≡◌, ℕ, zero, suc, ◌<◌, Bool, true, false, ◌||◌, All, List, [], ◌∷◌, ◌++◌, Option, Some, None, slice_get, refl, ap, sym, subst, ◌∙◌, ◌⊎◌, inl, inr, ⊎_elim}
+use Rattle.std.proofs.Common.{◌≡◌, ℕ, zero, suc, Bool, true, false, ◌||◌, All, List, [], ◌∷◌, Option, Some, None, slice_get, refl, ap, sym, subst, ◌∙◌, ⊎_elim}
 use Rattle.std.specs.Prelude.{reverse}
 use Rattle.std.specs.List.{list_any}
 use Rattle.std.proofs.Math.Bool.{or-false}
@@ -11,10 +11,9 @@ use Rattle.std.proofs.lemmas.Option.{none-some, same_Some}
 use Rattle.inode_events.specs.NewestFirst.{newest_first}
 use Rattle.inode_events.specs.declared.told.Event.{Event}
 use Rattle.inode_events.specs.templates.declared.entry.Entry.{Entry}
-use Rattle.order_outcomes.specs.alike.Alike.{places_in}
 use Rattle.order_outcomes.proofs.alike.InodeTold.{listed_places, shown_in}
 use Rattle.order_outcomes.specs.Calls.{is_listed, shows, shows_at}
-use Rattle.order_told.specs.Told.{AreEntriesSame, IsAt, IsThere}
+use Rattle.order_told.specs.Told.{AreEntriesSame, IsThere}
 
 -- two tests that imply each other are equal
 both_ways : (s t : Bool) → (s ≡ true → t ≡ true) → (t ≡ true → s ≡ true) → s ≡ t

@@ -1,44 +1,39 @@
 -- Moments of which the code finds that they can be met as one are alike.
-use Rattle.std.proofs.Common.{◌≡◌, ℕ, zero, suc, ◌+◌, ◌<◌, ◌≤◌, Bool, true, false, ◌==◌, List, [], ◌∷◌, length, map, get_or, Option, Some, None, option_map, refl, ap, sym, subst, ◌∙◌, ◌⊎◌, inl, inr, slice_get, arith}
+use Rattle.std.proofs.Common.{◌≡◌, ℕ, zero, suc, ◌+◌, ◌<◌, ◌≤◌, Bool, true, List, [], ◌∷◌, length, map, Option, Some, None, option_map, refl, ap, sym, subst, ◌∙◌, inr, slice_get, arith}
 use Rattle.std.specs.Prelude.{All, reverse}
 use Rattle.std.proofs.lemmas.Option.{get_or_from_slice_get, none-some, same_Some, slice_get-map, slice_get_within}
 use Rattle.call_steps.specs.declared.call.Call.{Call}
 use Rattle.run_laws.proofs.progress.Totals.{count_past, counted_when_reached}
 use Rattle.inode_cell.specs.Value.{CellValue}
 use Rattle.inode_events.specs.Checks.{last_check}
-use Rattle.inode_events.specs.EndedInode.{EndedInodeValue, ended_inode}
+use Rattle.inode_events.specs.EndedInode.{ended_inode}
 use Rattle.inode_events.specs.Files.{held}
 use Rattle.inode_events.specs.Inode.{Inode}
 use Rattle.inode_events.specs.Integrity.{attributes, collecting, in_force}
 use Rattle.inode_events.specs.Legal.{EachFollows}
 use Rattle.inode_events.specs.NewestFirst.{newest_first}
 use Rattle.inode_events.specs.Semaphores.{posts, waits}
-use Rattle.inode_events.specs.State.{content, modified_since}
-use Rattle.inode_events.specs.Verdicts.{Key, verdict_in_force}
+use Rattle.inode_events.specs.State.{content}
 use Rattle.inode_events.specs.declared.told.Event.{Event}
 use Rattle.inode_events.specs.templates.declared.entry.Entry.{Entry}
-use Rattle.inode_state.specs.InForce.{in_force_seen}
 use Rattle.inode_state.specs.State.{IsState}
 use Rattle.inode_state.specs.Verdicts.{found}
 use Rattle.inode_state.specs.declared.counts.Counts.{Counts}
 use Rattle.inode_state.specs.declared.marks.Marks.{Marks}
-use Rattle.inode_state.specs.declared.state.State.{State as InodeState}
-use Rattle.inode_state.specs.declared.verdicts.KeyedVerdict.{KeyedVerdict}
 use Rattle.journal_laws.proofs.Fresh.{Fresh}
 use Rattle.journal_laws.proofs.FreshSteps.{freshness_lem}
-use Rattle.order_outcomes.specs.alike.Alike.{AreIn, AreListsAlike, IsAlike, IsAlikeBy, IsIn, IsInodeAlike, IsSound, digests_seen, places_in, unchecked}
+use Rattle.order_outcomes.specs.alike.Alike.{AreIn, AreListsAlike, IsAlike, IsIn, IsInodeAlike, IsSound, digests_seen, places_in}
 use Rattle.order_outcomes.proofs.alike.Entries.{lists_alike}
 use Rattle.order_outcomes.specs.alike.Names.{is_used, position_named}
-use Rattle.order_outcomes.specs.Orders.{left_at}
 use Rattle.run_model.specs.Ended.{answered, answered_by, how_many, posted, posts_to, waited, waits_for}
 use Rattle.run_model.specs.EndedValue.{EndedValue, inodes_ended}
 use Rattle.run_model.specs.History.{Position}
 use Rattle.run_model.specs.Scene.{Program, Scene, ScriptFile, inode_of}
 use Rattle.run_model.specs.Turns.{Moment, State, journal_at}
 use Rattle.task_core.specs.Cells.{IsCellAt}
-use Rattle.task_core.specs.worlds.WorldConsts.{InodeConsts, inode_in, script_file_of}
+use Rattle.task_core.specs.worlds.WorldConsts.{script_file_of}
 use Rattle.task_core.specs.worlds.Runs.{position_of}
-use Rattle.order_sights.specs.Inodes.{AreFilesSame, AreJournalsSame, FitsIfThere, IsCellSame, IsPairFit}
+use Rattle.order_sights.specs.Inodes.{AreJournalsSame, FitsIfThere, IsCellSame, IsPairFit}
 use Rattle.order_sights.specs.Pairs.{ArePositionsPaired, are_apart, are_within, has_pair, named}
 use Rattle.order_sights.specs.Sights.{AreInodesSame, IsInodeSame, IsSight}
 use Rattle.order_sights.specs.declared.pairs.Pair.{Pair}

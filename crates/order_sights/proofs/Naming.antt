@@ -1,5 +1,5 @@
 -- The names that pairs of files give.
-use Rattle.std.proofs.Common.{◌≡◌, ℕ, zero, suc, ◌+◌, ◌<◌, ◌≤◌, Bool, true, false, not, ◌&&◌, ◌||◌, List, [], ◌∷◌, length, map, Option, Some, None, option_map, if◌then◌else◌, refl, ap, sym, subst, ◌∙◌, slice_get, eqb-true, arith}
+use Rattle.std.proofs.Common.{◌≡◌, ℕ, suc, ◌<◌, ◌≤◌, Bool, true, false, not, ◌&&◌, ◌||◌, List, [], ◌∷◌, length, map, Option, Some, None, option_map, if◌then◌else◌, refl, ap, sym, subst, ◌∙◌, eqb-true, arith}
 use Rattle.std.specs.Prelude.{◌==◌, All, nat_lt}
 use Rattle.std.specs.List.{list_all, list_any}
 use Rattle.std.proofs.lemmas.Bool.{and_parts, eq-eqb, ltb-true, true≢false}
@@ -8,7 +8,7 @@ use Rattle.call_steps.specs.CallState.{Progress}
 use Rattle.call_steps.specs.declared.held.Handle.{Handle}
 use Rattle.run_model.specs.History.{Position}
 use Rattle.order_outcomes.specs.alike.Names.{handle_named, has_file, in_handles, in_progress, is_used, position_named, progress_named}
-use Rattle.order_sights.specs.Pairs.{ArePositionsPaired, AreTwo, HandlesPaired, IsHandlePaired, IsPositionPaired, IsProgressPaired, are_apart, are_within, has_pair, is_apart, is_pair, named, same_bool}
+use Rattle.order_sights.specs.Pairs.{ArePositionsPaired, AreTwo, HandlesPaired, IsHandlePaired, IsPositionPaired, IsProgressPaired, are_apart, are_within, has_pair, is_apart, named, same_bool}
 use Rattle.order_sights.specs.declared.pairs.Pair.{Pair}
 
 -- ---- lists

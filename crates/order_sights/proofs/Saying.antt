@@ -1,7 +1,6 @@
 -- Journals that say the same of the calls in them say the same of all calls.
-use Rattle.std.proofs.Common.{◌≡◌, ℕ, ◌<◌, ◌≤◌, Bool, true, false, ◌&&◌, All, List, [], ◌∷◌, length, Option, Some, None, if◌then◌else◌, refl, ap, sym, subst, ◌∙◌, ◌⊎◌, inl, inr, eqb-true, arith}
-use Rattle.std.specs.Prelude.{◌==◌, nat_lt, reverse}
-use Rattle.std.specs.List.{list_all}
+use Rattle.std.proofs.Common.{◌≡◌, ℕ, ◌≤◌, Bool, true, false, ◌&&◌, All, List, [], ◌∷◌, Option, Some, None, if◌then◌else◌, refl, ap, sym, ◌∙◌, ◌⊎◌, inl, inr, eqb-true, arith}
+use Rattle.std.specs.Prelude.{◌==◌, reverse}
 use Rattle.std.specs.Option.{option_or}
 use Rattle.std.proofs.lemmas.Bool.{and_parts, ltb-true}
 use Rattle.std.proofs.lemmas.List.Elements.{All-head, All-tail}
@@ -15,7 +14,6 @@ use Rattle.inode_events.specs.declared.deed.Deed.TheVariants as deed
 use Rattle.inode_events.specs.declared.told.Event.{Event}
 use Rattle.inode_events.specs.declared.told.Told.{Told}
 use Rattle.inode_events.specs.declared.told.Told.TheVariants as told
-use Rattle.inode_events.specs.labels.declared.verdict.Verdict.{Verdict}
 use Rattle.inode_events.specs.templates.declared.entry.Entry.{Entry}
 use Rattle.order_outcomes.specs.alike.Alike.{unchecked}
 use Rattle.order_outcomes.specs.Calls.{is_by, is_listed, is_read, listed_in, verdict_in, verdict_told}

@@ -1,10 +1,10 @@
 -- States of an inode that are the same say the same of what can follow.
-use Rattle.std.proofs.Common.{◌≡◌, ℕ, ◌+◌, ◌*◌, ◌<◌, ◌≤◌, Bool, true, false, List, length, take, Option, Some, None, refl, ap, sym, subst, ◌∙◌, arith}
-use Rattle.std.specs.Prelude.{is_none, option_map}
+use Rattle.std.proofs.Common.{◌≡◌, ℕ, Bool, List, length, Option, Some, None, refl, ap, sym, ◌∙◌, arith}
+use Rattle.std.specs.Prelude.{option_map}
 use Rattle.std.proofs.lemmas.Option.{none-some, same_Some}
 use Rattle.inode_events.specs.Inode.{Inode}
-use Rattle.inode_events.specs.Integrity.{Collection, Digests, collecting, in_force}
-use Rattle.inode_events.specs.State.{content, modified_since}
+use Rattle.inode_events.specs.Integrity.{Collection, Digests}
+use Rattle.inode_events.specs.State.{modified_since}
 use Rattle.inode_events.specs.declared.told.Event.{Event}
 use Rattle.inode_state.specs.Collecting.{Short, short_of, short_seen, shortened, shorts_seen}
 use Rattle.inode_state.specs.InForce.{in_force_seen}
@@ -12,7 +12,7 @@ use Rattle.inode_state.specs.Writes.{reaches}
 use Rattle.inode_state.specs.declared.collecting.Collecting.{Collecting}
 use Rattle.inode_state.specs.declared.in_force.InForce.{InForce}
 use Rattle.journal_laws.proofs.Fresh.{CollectionIs, DigestsIs}
-use Rattle.order_outcomes.specs.alike.Alike.{CollectionSeen, DigestsSeen, HasBegun, HaveBegun, collection_seen, digests_seen}
+use Rattle.order_outcomes.specs.alike.Alike.{HasBegun, HaveBegun, collection_seen, digests_seen}
 use Rattle.order_sights.specs.States.{AreCollectionsSame, force_seen}
 use Rattle.order_sights.specs.Taken.{taken}
 use Rattle.order_sights.specs.TakenValue.{TakenValue}

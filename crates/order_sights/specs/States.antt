@@ -1,5 +1,5 @@
 -- The state of an inode in two moments, as the next steps see it.
-use Rattle.std.specs.Prelude.{◌≡◌, ℕ, Bool, Option, Some, None, is_none}
+use Rattle.std.specs.Prelude.{◌≡◌, ℕ, Option, Some, None, is_none}
 use Rattle.inode_state.specs.Writes.{reaches}
 use Rattle.inode_state.specs.declared.collecting.Collecting.{Collecting}
 use Rattle.inode_state.specs.declared.in_force.InForce.{InForce}

@@ -20,7 +20,7 @@ use Rattle.run_model.specs.Scene.{Program, Scene, ScriptFile, inode_of}
 use Rattle.run_model.specs.Shown.{IsShown, journals_of}
 use Rattle.call_steps.specs.declared.ending.Ending.{Ending}
 use Rattle.report_text.specs.Printed.{IsOneScript, IsTold, printed}
-use Rattle.inode_events.specs.EndedInode.{EndedInodeValue as EndedInode, ended_inode}
+use Rattle.inode_events.specs.EndedInode.{EndedInodeValue as EndedInode}
 use Rattle.report_text.proofs.Whole.{report_tells}
 use Rattle.run_laws.proofs.shown.Sound.{journal_has}
 use Rattle.report_laws.specs.Law.{IsSameRun, ReportDetermines}

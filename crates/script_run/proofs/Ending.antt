@@ -1,5 +1,5 @@
 -- The turns of a script lead to a run of the script, with all that is promised of it.
-use Rattle.std.proofs.Common.{◌≡◌, ℕ, ◌<◌, ◌||◌, true, false, nat_le, nat_lt, All, List, [], ◌∷◌, ◌++◌, length, map, Result, Ok, Err, IfOk, refl, ap, sym, subst, ◌∙◌}
+use Rattle.std.proofs.Common.{◌≡◌, ℕ, ◌<◌, true, false, nat_le, nat_lt, List, [], ◌∷◌, ◌++◌, length, Result, Ok, Err, IfOk, refl, ap, sym, subst, ◌∙◌}
 use Rattle.std.specs.List.{AllByRecursion, list_all}
 use Rattle.std.proofs.lemmas.List.{length-map}
 use Rattle.std.proofs.lemmas.List.Elements.{All-from_recursion}
@@ -9,14 +9,12 @@ use Rattle.measure_book.proofs.ReplayLemmas.{register-banks_of}
 use Rattle.measure_book.specs.Replay.{banks_of}
 use Rattle.run_model.specs.registers.Banks.{register}
 use Rattle.run_model.specs.registers.declared.banks.Banks.{Banks}
-use Rattle.ima_templates.specs.declared.entry.Entry.{Entry}
 use Rattle.run_model.specs.Ended.{IsThrough}
 use Rattle.run_model.specs.EndedValue.{EndedValue, ended_of}
-use Rattle.run_model.specs.Rounds.{IsRunOf, RoundsTo, moves}
-use Rattle.run_model.specs.Scene.{Program, Scene}
-use Rattle.run_model.specs.Served.{Run}
+use Rattle.run_model.specs.Rounds.{IsRunOf, moves}
+use Rattle.run_model.specs.Scene.{Scene}
 use Rattle.run_model.specs.Shown.{IsShown}
-use Rattle.run_model.specs.Turns.{Moment, run_at, start_of, turns_of}
+use Rattle.run_model.specs.Turns.{Moment, run_at, start_of}
 use Rattle.script_text.specs.Forms.{IsScript, is_ending}
 use Rattle.script_text.specs.Limits.{most_threads, most_turns}
 use Rattle.script_text.proofs.Holding.{left_true, right_true}

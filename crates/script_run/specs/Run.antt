@@ -1,5 +1,5 @@
 -- The run of a script, the state that it leaves, and what is proved of both.
-use Rattle.std.specs.Prelude.{◌≡◌, ℕ, ◌<◌, ◌≤◌, ◌++◌, false, All, List, length}
+use Rattle.std.specs.Prelude.{◌≡◌, ℕ, ◌<◌, ◌≤◌, ◌++◌, false, All, List}
 use Rattle.std.specs.List.{AllByRecursion}
 use Rattle.measure_book.specs.Replay.{replay}
 use Rattle.run_model.specs.registers.Banks.{register}

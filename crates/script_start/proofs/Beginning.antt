@@ -1,10 +1,10 @@
 -- New tasks belong to their world, and have the programs of the script before their first calls.
-use Rattle.std.proofs.Common.{◌≡◌, ℕ, zero, suc, ◌+◌, ◌<◌, true, List, [], ◌∷◌, ◌++◌, length, map, Some, refl, ap, sym, subst, ◌∙◌, arith}
+use Rattle.std.proofs.Common.{◌≡◌, ℕ, zero, suc, ◌<◌, true, List, [], ◌∷◌, length, map, Some, refl, ap, sym, subst, ◌∙◌, arith}
 use Rattle.std.specs.Prelude.{slice_get}
-use Rattle.std.specs.List.{AllByRecursion, list_all}
+use Rattle.std.specs.List.{list_all}
 use Rattle.std.proofs.lemmas.List.{length-map}
 use Rattle.std.proofs.lemmas.Option.{none-some, same_Some, slice_get_within}
-use Rattle.run_model.specs.History.{Position, start}
+use Rattle.run_model.specs.History.{start}
 use Rattle.run_model.specs.Scene.{Program}
 use Rattle.script_text.specs.Forms.{is_cred, is_line_call, is_task}
 use Rattle.script_text.specs.declared.blocks.TaskBlock.{TaskBlock}
@@ -15,13 +15,10 @@ use Rattle.task_core.specs.worlds.Runs.{AreTasks, position_of, programs_of}
 use Rattle.task_core.specs.worlds.Tasks.{AreCallsOf, PassesValue, Tasked}
 use Rattle.task_core.proofs.about_closes.Gets.{get_map, map_get}
 use Rattle.task_core.specs.starts.Start.{AreFirstPasses}
-use Rattle.call_steps.specs.declared.ending.Ending.{Ending}
-use Rattle.run_model.specs.Turns.{start_of}
 use Rattle.script_text.specs.Forms.{IsScript}
 use Rattle.script_text.specs.ScriptValue.{ScriptValue}
 use Rattle.task_core.specs.worlds.WorldConsts.{InodeConsts}
 use Rattle.task_core.specs.worlds.World.{WorldValue}
-use Rattle.task_core.specs.worlds.WorldRuns.{moment_in, scene_in}
 use Rattle.task_core.specs.starts.Start.{AreConstsOf, Begins}
 use Rattle.script_scene.specs.Parts.{ArePartsOf}
 use Rattle.script_scene.specs.Scene.{file_of}

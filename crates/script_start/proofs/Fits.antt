@@ -1,9 +1,8 @@
 -- A script that the grammar accepts has all that a world and its tasks require.
-use Rattle.std.proofs.Common.{◌≡◌, ℕ, zero, suc, ◌+◌, ◌<◌, ◌≤◌, ◌&&◌, ◌||◌, Bool, true, false, nat_le, nat_lt, List, [], ◌∷◌, length, map, Option, Some, None, refl, subst, ap, sym, ◌∙◌, arith}
-use Rattle.std.specs.Prelude.{slice_get, All}
+use Rattle.std.proofs.Common.{◌≡◌, ℕ, zero, suc, ◌<◌, ◌≤◌, ◌||◌, Bool, true, false, nat_le, nat_lt, List, [], ◌∷◌, length, map, Option, Some, None, refl, subst, arith}
+use Rattle.std.specs.Prelude.{slice_get}
 use Rattle.std.specs.List.{AllByRecursion, list_all}
 use Rattle.std.proofs.lemmas.Bool.Decides.{nat_tests}
-use Rattle.std.proofs.lemmas.List.Elements.{All-from_recursion}
 use Rattle.std.proofs.lemmas.Option.{none-some, same_Some}
 use Rattle.call_steps.specs.Forms.{is_call, is_offset, is_portion}
 use Rattle.call_steps.specs.declared.call.Call.{Call}
@@ -11,11 +10,9 @@ use Rattle.call_steps.specs.declared.call.Call.TheVariants as call
 use Rattle.run_model.specs.events.Files.{is_writer}
 use Rattle.run_model.specs.events.declared.image.Image.{Image}
 use Rattle.policy_rules.specs.declared.access.Super.{Super}
-use Rattle.script_text.specs.Forms.{AreFiles, AreTasks, IsFile, IsOn, IsOnSome, IsScript, is_cred, is_line_call, is_task}
-use Rattle.script_text.specs.ScriptValue.{ScriptValue}
+use Rattle.script_text.specs.Forms.{IsFile, IsOnSome, is_line_call}
 use Rattle.script_text.specs.declared.blocks.FileBlock.{FileBlock}
-use Rattle.script_text.specs.declared.blocks.TaskBlock.{TaskBlock}
-use Rattle.script_text.proofs.Holding.{both_true, left_true, right_true}
+use Rattle.script_text.proofs.Holding.{left_true, right_true}
 use Rattle.script_text.proofs.about_calls.Ranges.{line_call_is}
 use Rattle.task_core.specs.laws_of_progress.NextSteps.{IsFit}
 use Rattle.task_core.specs.laws_of_progress.ScriptFiles.{IsWithin}

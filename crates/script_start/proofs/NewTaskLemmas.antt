@@ -1,18 +1,15 @@
 -- The loop of `new_tasks`: one more task of a script.
-use Rattle.std.proofs.Common.{◌≡◌, ℕ, zero, suc, ◌+◌, ◌<◌, List, [], ◌∷◌, ◌++◌, length, drop, Some, Result, Ok, Err, IfOk, refl, ap, sym, subst, ◌∙◌, ◌⊎◌, inl, inr, arith}
+use Rattle.std.proofs.Common.{◌≡◌, ℕ, zero, suc, ◌+◌, List, [], ◌∷◌, ◌++◌, length, drop, Some, Result, Ok, Err, IfOk, refl, ap, sym, subst, ◌∙◌, ◌⊎◌, inl, inr, arith}
 use Rattle.std.specs.Prelude.{slice_get}
 use Rattle.std.proofs.lemmas.List.{length-append}
-use Rattle.std.proofs.lemmas.Option.{none-some, same_Some, slice_get_within}
+use Rattle.std.proofs.lemmas.Option.{none-some, same_Some}
 use Rattle.call_steps.specs.declared.call.Call.{Call}
-use Rattle.policy_rules.specs.meta.declared.identity.Cred.{Cred}
 use Rattle.run_model.specs.History.{start}
-use Rattle.run_model.specs.Scene.{Program}
 use Rattle.script_text.specs.declared.blocks.TaskBlock.{TaskBlock}
 use Rattle.task_core.specs.worlds.WorldConsts.{WorldConsts}
 use Rattle.task_core.specs.worlds.Tasks.{AreCallsOf, ArePassesOf, AreUnused, IsTask, PassesValue, Tasked}
 use Rattle.task_core.proofs.about_closes.Gets.{get_parts}
-use Rattle.script_scene.specs.Scene.{program_of}
-use Rattle.script_start.specs.NewTasks.{AreNew, IsNew}
+use Rattle.script_start.specs.NewTasks.{IsNew}
 
 -- a task is new, given what `Task::new` ensures
 pub new_is : {E : Type 0} (r : Result Tasked E) (n : ℕ) (block : TaskBlock) (calls : List Call)

@@ -1,5 +1,5 @@
 -- A world that was started with the parts of a script has the script's scene.
-use Rattle.std.proofs.Common.{◌≡◌, ℕ, List, [], ◌∷◌, length, map, drop, get_or, refl, ap, sym, ◌∙◌, arith}
+use Rattle.std.proofs.Common.{◌≡◌, ℕ, List, [], ◌∷◌, length, map, drop, get_or, refl, ap, ◌∙◌, arith}
 use Rattle.run_model.specs.events.declared.image.Image.{Image}
 use Rattle.policy_rules.specs.declared.access.Super.{Super}
 use Rattle.run_model.specs.Scene.{Program, no_super}

@@ -3,7 +3,6 @@ use Rattle.std.proofs.Common.{◌≡◌, true, false}
 use Rattle.inode_events.specs.declared.deed.Deed.{Deed}
 use Rattle.inode_events.specs.declared.deed.Deed.TheVariants as deed
 use Rattle.task_steps.specs.Hashed.{IsAloneDeed, IsCollectingDeed, IsPlainDeed, goes_on}
-use Rattle.task_state.specs.declared.step.DueDeed.TheVariants as due
 
 pub collects : (d : Deed) → goes_on d ≡ true → IsCollectingDeed d
 collects (deed.Chunk file) e = tt

@@ -6,7 +6,6 @@ use Rattle.view_journal.specs.declared.bars.Bar.{Bar}
 use Rattle.view_journal.specs.declared.column.Column.{Column}
 use Rattle.view_lanes.specs.declared.lanes.Lane.{Lane}
 use Rattle.view_journal.specs.declared.window.Window.{Window}
-use Rattle.view_journal.specs.Bars.{bars, lane}
 use Rattle.view_journal.specs.Columns.{columns_of}
 use Rattle.view_layout.specs.Drawing.{Sketch, sketch_by}
 use Rattle.view_layout.specs.Flags.{flag_extents, notes_of}

@@ -1,5 +1,5 @@
 -- The frame of a page: its head, and the tiles with the numbers of a report.
-use Rattle.std.specs.Prelude.{ℕ, ◌+◌, nat_lt, not, Bool, true, false, List, [], ◌∷◌, ◌++◌, length, if◌then◌else◌}
+use Rattle.std.specs.Prelude.{ℕ, nat_lt, not, Bool, true, false, List, [], ◌∷◌, ◌++◌, length, if◌then◌else◌}
 use Rattle.view_page.specs.declared.own.Own.TheVariants as own
 use Rattle.view_page.specs.declared.pieces.Piece.TheVariants as piece
 use Rattle.view_page.specs.journals.reading.Report.{InodeValue, ReportValue, TaskValue}

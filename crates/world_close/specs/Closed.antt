@@ -11,8 +11,6 @@ use Rattle.inode_events.specs.Legal.{Legal}
 use Rattle.inode_events.specs.NewestFirst.{newest_first}
 use Rattle.inode_events.specs.Semaphores.{LegalSemaphores}
 use Rattle.inode_events.specs.declared.told.Event.{Event}
-use Rattle.ima_templates.specs.Path.{IsMeasuredPath}
-use Rattle.inode_events.specs.meta.declared.measurement.Template.TheVariants.{Ima}
 use Rattle.world_model.specs.laws_of_journals.Booked.{IsBooked}
 use Rattle.world_model.specs.laws_of_journals.Own.{IsOwned}
 use Rattle.world_model.specs.laws_of_runs.Laws.{BookClosed}

@@ -1,7 +1,5 @@
-use Rattle.std.proofs.Common.{refl, ap, sym, subst, ◌∙◌, List}
-use Rattle.inode_events.specs.Checks.{Check}
+use Rattle.std.proofs.Common.{refl, sym, subst, ◌∙◌, List}
 use Rattle.inode_events.specs.declared.told.Event.{Event}
-use Rattle.inode_events.specs.policy.ActionValue.{ActionValue}
 use Rattle.inode_events.specs.policy.declared.rule.Func.TheVariants as func
 use Rattle.order_sights.specs.Files.{IsSeen}
 use Rattle.order_sights.proofs.Seeing.{seen_next, seen_none}

@@ -1,4 +1,4 @@
-use Rattle.std.proofs.Common.{◌<◌, length, subst, sym, arith}
+use Rattle.std.proofs.Common.{sym, arith}
 use Rattle.order_sights.specs.Pairs.{IsHandlePaired}
 use Rattle.order_sights.proofs.Twos.{two_all, two_more}
 use Rattle.order_sights.proofs.pairs.same_handles.Goals as goal

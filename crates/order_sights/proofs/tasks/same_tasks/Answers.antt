@@ -1,4 +1,4 @@
-use Rattle.std.proofs.Common.{◌∙◌, length, sym, arith}
+use Rattle.std.proofs.Common.{◌∙◌, sym, arith}
 use Rattle.std.proofs.lemmas.List.{length-map}
 use Rattle.task_core.specs.worlds.Runs.{position_of}
 use Rattle.task_core.specs.worlds.Tasks.{Tasked}

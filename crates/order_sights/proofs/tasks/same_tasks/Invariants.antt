@@ -1,5 +1,4 @@
 -- the tasks so far are the same, with files that are pairs
-use Rattle.std.proofs.Common.{map}
 use Rattle.task_core.specs.worlds.Runs.{position_of}
 use Rattle.order_sights.specs.Pairs.{AreTwo, IsPositionPaired}
 use Rattle.order_sights.proofs.tasks.same_tasks.Given as goal

@@ -1,5 +1,5 @@
-use Rattle.std.proofs.Common.{ℕ, List, ap, sym, ◌∙◌}
-use Rattle.std.specs.Prelude.{option_to_list, reverse}
+use Rattle.std.proofs.Common.{ℕ, List, ap, ◌∙◌}
+use Rattle.std.specs.Prelude.{reverse}
 use Rattle.order_outcomes.specs.alike.Alike.{places_in}
 use Rattle.order_told.proofs.Telling.{places_next, places_none}
 use Rattle.order_told.proofs.Walks.{past_all}

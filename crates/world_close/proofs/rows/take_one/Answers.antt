@@ -1,4 +1,4 @@
-use Rattle.std.proofs.Common.{◌≡◌, refl, length, ◌∙◌, sym}
+use Rattle.std.proofs.Common.{refl, length}
 use Rattle.std.proofs.lemmas.Option.{slice_get_read}
 use Rattle.world_close.proofs.Rowing.{mid_more}
 use Rattle.world_close.proofs.rows.take_one.Goals as goal
